@@ -1,0 +1,9 @@
+pub mod Reading
+pub mod Roots
+pub mod Passes
+pub mod Runs
+pub mod Grids
+pub mod Mirror
+pub mod More
+pub mod Labels
+pub mod Turns
