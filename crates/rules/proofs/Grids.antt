@@ -6,7 +6,7 @@ use mathlib.Core.Bool.{Bool, true, false, not, _&&_, _||_}
 use lib.Dec.{leb, eqb}
 use Rattle.rules.specs.Regions.{Symmetric}
 use Rattle.rules.specs.Grid.{close, eight, four}
-use Rattle.lists.proofs.Counting.{case, clash, both, left, right, either, or-left, or-right, not-true, not-false, eqb-yes, yes-eqb}
+use Rattle.base.proofs.Counting.{case, clash, both, left, right, either, or-left, or-right, not-true, not-false, eqb-yes, yes-eqb}
 
 close-sym : (a b : ℕ) → close a b ≡ true → close b a ≡ true
 unfolding close

@@ -10,9 +10,9 @@ use native.Mathlib.Omega.{arith}
 use lib.IntN.{ℤ}
 use lib.Dec.{leb, eqb}
 use lib.ListN.{length}
-use Rattle.lists.specs.Places.{count}
+use Rattle.base.specs.Places.{count}
 use Rattle.rules.specs.Regions.{at, opaque, Joined, held, roots, root, inside, first, label, Symmetric}
-use Rattle.lists.proofs.Counting.{case, clash, leb-yes, no-leb, left, right, eqb-yes, count-some}
+use Rattle.base.proofs.Counting.{case, clash, leb-yes, no-leb, left, right, eqb-yes, count-some}
 use Rattle.rules.proofs.Roots.{opaque-below, root-below, join-root, root-join, root-first, first-root}
 
 count-prefix : (a b : ℕ) (t : ℕ → Bool) → a ≤ b → count a t ≤ count b t

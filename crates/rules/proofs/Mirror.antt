@@ -11,11 +11,11 @@ use lib.IntN.{ℤ, pos, negsuc}
 use lib.Signed.{nonNeg, ltZ}
 use lib.Dec.{leb, ltb, eqb}
 use lib.ListN.{length, getD}
-use Rattle.lists.specs.Places.{table, any, count, greatest}
+use Rattle.base.specs.Places.{table, any, count, greatest}
 use Rattle.rules.specs.Regions.{at, opaque, index, link, Joined, here, step, held, roots, root, inside, first, Symmetric}
 use Rattle.rules.specs.Pass.{Rule, State, View, marked, size, few, isSmall, isLarge, small, large, smalls, view, Verdict, stay, merge, freeze, voter, votes, most, top, frequent, choose, target, judged, pending, decided, verdict, painted, merges, freezes, fates, fate, applied, pass, repaints, moves, fresh, Cleaned, clean}
 use Rattle.rules.specs.Carry.{among, Carried}
-use Rattle.lists.proofs.Counting.{case, clash, both, left, right, not-true, not-false, same-test, eqb-yes, yes-eqb, table-at, any-yes, yes-any, any-no, count-carried, greatest-carried}
+use Rattle.base.proofs.Counting.{case, clash, both, left, right, not-true, not-false, same-test, eqb-yes, yes-eqb, table-at, any-yes, yes-any, any-no, count-carried, greatest-carried}
 use Rattle.rules.proofs.Roots.{link-adj, link-same, link-left, link-right, to-link, join-left, join-right, join-same, join-trans, join-sym, opaque-below, joined-root, root-below, root-le, clear-root, join-root, root-root, first-root, inside-join, join-inside}
 use Rattle.rules.proofs.Runs.{clean-go, clean-stop}
 use Rattle.rules.proofs.Passes.{pass-length, view-large, join-large, large-opaque, fate-at, cell-at, frozen-at}

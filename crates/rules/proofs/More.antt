@@ -14,10 +14,10 @@ use lib.Signed.{nonNeg, ltZ}
 use lib.Dec.{leb, ltb, eqb}
 use lib.Ieee.{Float, lt}
 use lib.ListN.{length, getD}
-use Rattle.lists.specs.Places.{table, any, count, greatest}
+use Rattle.base.specs.Places.{table, any, count, greatest}
 use Rattle.rules.specs.Regions.{at, opaque, index, Joined, here, step, held, roots, root, inside, first, Symmetric}
 use Rattle.rules.specs.Pass.{Rule, State, View, marked, size, few, isSmall, isLarge, small, large, smalls, view, Verdict, stay, merge, freeze, voter, votes, most, top, frequent, choose, target, judged, pending, decided, verdict, painted, merges, freezes, fates, fate, applied, pass, repaints, moves, fresh, Cleaned, clean}
-use Rattle.lists.proofs.Counting.{case, clash, both, left, right, not-true, not-false, same-test, leb-yes, yes-leb, eqb-yes, yes-eqb, table-at, any-yes, yes-any, any-no, count-some, count-yes, greatest-above, or-right}
+use Rattle.base.proofs.Counting.{case, clash, both, left, right, not-true, not-false, same-test, leb-yes, yes-leb, eqb-yes, yes-eqb, table-at, any-yes, yes-any, any-no, count-some, count-yes, greatest-above, or-right}
 use Rattle.rules.proofs.Roots.{join-right, opaque-below, joined-root, root-below, join-inside, first-root}
 use Rattle.rules.proofs.Passes.{pass-length, frozen-length, large-opaque, small-opaque, small-few, fate-at, cell-at, frozen-at, repaints-at, repaints-below, repainted, repainted-large, unpainted-kept, fewer-smalls, still, same-cells, small-counted, merge-why, target-some, frequent-voter}
 use Rattle.rules.proofs.Runs.{clean-go, clean-stop, moves-yes, moves-no}

@@ -18,11 +18,11 @@ use lib.Dec.{leb, ltb, eqb}
 use lib.Ieee.{Float, lt}
 use lib.ListN.{length, getD, List·getD-eq-default}
 use lib.Seq.{ext-getD}
-use Rattle.lists.specs.Places.{table, any, count, least, times}
+use Rattle.base.specs.Places.{table, any, count, least, times}
 use Rattle.rules.specs.Regions.{at, opaque, index, alike, link, Joined, here, step, held, spread, roots, root, inside, first, Symmetric}
 use Rattle.rules.specs.Pass.{Rule, State, View, marked, size, few, isSmall, isLarge, small, large, smalls, view, Verdict, stay, merge, freeze, voter, votes, most, top, frequent, choose, target, judged, pending, decided, verdict, painted, merges, freezes, fates, fate, applied, pass, repaints, moves, Cleaned, clean}
 use Rattle.rules.specs.Claims.{Left, apart, frozen, locked}
-use Rattle.lists.proofs.Counting.{case, clash, both, left, right, not-true, not-false, eqb-yes, yes-eqb, leb-yes, yes-leb, no-leb, table-at, table-length, any-yes, yes-any, any-no, count-le, count-mono, count-same, count-less, count-some, count-yes, greatest-above, greatest-at, either, or-left, or-right}
+use Rattle.base.proofs.Counting.{case, clash, both, left, right, not-true, not-false, eqb-yes, yes-eqb, leb-yes, yes-leb, no-leb, table-at, table-length, any-yes, yes-any, any-no, count-le, count-mono, count-same, count-less, count-some, count-yes, greatest-above, greatest-at, either, or-left, or-right}
 use Rattle.rules.proofs.Roots.{same-opaque, to-link, join-left, join-right, join-same, join-trans, join-sym, opaque-below, joined-root, root-below, root-le, clear-root, join-root, root-join, root-first, root-root, inside-join, join-inside, lift-join}
 
 -- ---- verdicts

@@ -6,7 +6,7 @@ use lib.Dec.{leb·zero}
 use lib.IntN.{ℤ, pos, negsuc}
 use lib.Signed.{leZ, nonNeg}
 use lib.ListN.{length, getD}
-use Rattle.lists.proofs.Counting.{getD-within}
+use Rattle.base.proofs.Counting.{getD-within}
 use Rattle.rules.specs.Regions.{at, opaque}
 
 -- what code reads is the cell, and its test of a cell is `opaque`

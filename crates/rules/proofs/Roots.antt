@@ -11,9 +11,9 @@ use lib.IntN.{ℤ, pos, negsuc}
 use lib.Signed.{nonNeg}
 use lib.Dec.{leb, ltb, eqb}
 use lib.ListN.{length, getD, List·getD-eq-default}
-use Rattle.lists.specs.Places.{table, any, count, least, times}
+use Rattle.base.specs.Places.{table, any, count, least, times}
 use Rattle.rules.specs.Regions.{at, opaque, index, alike, link, Joined, here, step, held, spread, roots, root, inside, first, Symmetric}
-use Rattle.lists.proofs.Counting.{case, clash, both, left, right, not-true, not-false, eqb-yes, yes-eqb, leb-yes, yes-leb, no-leb, table-at, any-yes, any-no, count-le, count-less, count-some, least-start, least-below, least-is}
+use Rattle.base.proofs.Counting.{case, clash, both, left, right, not-true, not-false, eqb-yes, yes-eqb, leb-yes, yes-leb, no-leb, table-at, any-yes, any-no, count-le, count-less, count-some, least-start, least-below, least-is}
 
 -- ---- cells that are alike
 

@@ -12,11 +12,11 @@ use lib.Signed.{nonNeg, ltZ}
 use lib.Dec.{leb, ltb, eqb}
 use lib.ListN.{length, getD}
 use lib.Seq.{ext-getD}
-use Rattle.lists.specs.Places.{table, any, count}
+use Rattle.base.specs.Places.{table, any, count}
 use Rattle.rules.specs.Regions.{at, opaque, index, link, Joined, here, step, held, roots, root, inside, first, Symmetric}
 use Rattle.rules.specs.Pass.{Rule, State, View, marked, size, few, isSmall, isLarge, small, large, smalls, view, Verdict, stay, merge, freeze, voter, votes, most, top, frequent, choose, target, judged, pending, decided, verdict, painted, merges, freezes, fates, fate, applied, pass, repaints, moves, fresh, Cleaned, clean}
 use Rattle.rules.specs.Claims.{repaintings, cleaned, Left, apart, frozen, locked, OneRun, TwoRuns, Demand3}
-use Rattle.lists.proofs.Counting.{case, clash, both, left, right, not-true, not-false, eqb-yes, yes-eqb, leb-yes, yes-leb, no-leb, table-at, table-length, any-yes, yes-any, any-no, count-le, count-mono, count-same, count-less, count-some, count-yes}
+use Rattle.base.proofs.Counting.{case, clash, both, left, right, not-true, not-false, eqb-yes, yes-eqb, leb-yes, yes-leb, no-leb, table-at, table-length, any-yes, yes-any, any-no, count-le, count-mono, count-same, count-less, count-some, count-yes}
 use Rattle.rules.proofs.Roots.{join-left, join-right, join-same, join-trans, join-sym, opaque-below, joined-root, root-below, root-le, join-root, root-first, root-root}
 use Rattle.rules.proofs.Passes.{pass-length, large-kept, large-stays, Repainted, repainted, repainted-large, small-kept, small-was, small-region, join-large, join-small, small-or-large, not-both, unpainted-kept, repaints-below, join-repaints, repainted-small, large-source, fewer-smalls, frozen-length, still, same-cells, small-counted, Whole, whole-stays, left-why}
 

@@ -15,7 +15,7 @@ use Rattle.rules.specs.Carry.{among, Carried}
 use Rattle.rules.proofs.Grids.{eight-symmetric, four-symmetric}
 use Rattle.rules.proofs.Mirror.{clean-carried}
 use Rattle.rules.specs.Grid.{close, eight, four}
-use Rattle.lists.proofs.Counting.{case, clash, both, left, right, either, or-left, or-right, not-true, not-false, eqb-yes, yes-eqb, leb-yes, yes-leb}
+use Rattle.base.proofs.Counting.{case, clash, both, left, right, either, or-left, or-right, not-true, not-false, eqb-yes, yes-eqb, leb-yes, yes-leb}
 
 -- a map of the cells of h rows of w to those of h′ rows of w′, given by the new row and the new column, which keeps cells close
 pub record Map (h w h′ w′ : ℕ) (row col : ℕ → ℕ → ℕ) : Type 0 where

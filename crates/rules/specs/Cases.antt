@@ -9,7 +9,7 @@ use lib.ListN.{getD}
 use lib.Ieee.{Float, nan, inf, fin, binary64, ofInt, add, sub, mul, up, down, round}
 use lib.Ieee as Ieee
 use lib.Count
-use Rattle.lists.specs.Places.{tableFrom, table, any, count, least, greatest, times}
+use Rattle.base.specs.Places.{tableFrom, table, any, count, least, greatest, times}
 use Rattle.rules.specs.Regions.{at, opaque, index, alike, link, held, spread, roots, inside, first, label}
 use Rattle.rules.specs.Pass
 use Rattle.rules.specs.Pass.{Rule, State, clean}

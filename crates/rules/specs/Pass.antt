@@ -9,7 +9,7 @@ use lib.IntN.{ℤ, pos, negsuc}
 use lib.Signed.{ltZ}
 use lib.ListN.{getD}
 use lib.Ieee.{Float, lt}
-use Rattle.lists.specs.Places.{tableFrom, table, any, count, greatest}
+use Rattle.base.specs.Places.{tableFrom, table, any, count, greatest}
 use Rattle.rules.specs.Regions.{at, opaque, index, roots, held, inside, first}
 
 -- what a pass goes by

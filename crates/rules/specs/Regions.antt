@@ -9,7 +9,7 @@ use lib.Dec.{eqb}
 use lib.IntN.{ℤ, pos, negsuc}
 use lib.Signed.{nonNeg}
 use lib.ListN.{getD}
-use Rattle.lists.specs.Places.{tableFrom, table, count, least, times}
+use Rattle.base.specs.Places.{tableFrom, table, count, least, times}
 
 -- the cell at a place; off the sheet it is transparent
 unfoldable pub at : List ℤ → ℕ → ℤ

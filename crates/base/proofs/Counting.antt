@@ -9,7 +9,7 @@ use native.Mathlib.Decide.{decLe, ℕ-discrete}
 use native.Mathlib.Omega.{arith}
 use lib.Dec.{T, leb, ltb, eqb, leb→le, le→leb, ltb→lt, lt→ltb, eqb→eq, eqb-refl, nleb→lt, leb·zero}
 use lib.ListN.{length, getD}
-use Rattle.lists.specs.Places.{tableFrom, table, any, count, least, greatest, times}
+use Rattle.base.specs.Places.{tableFrom, table, any, count, least, greatest, times}
 
 -- ---- tests
 
