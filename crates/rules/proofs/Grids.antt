@@ -1,5 +1,5 @@
 -- The two neighbourhoods of a grid work both ways round and hold no cell's self. Assumes nothing.
-use Prim.Native.Nat.{ℕ, suc, _/_, _%_}
+use Prim.Native.Nat.{ℕ, suc, _/_, _%_, _+_}
 use mathlib.Core.Path.{_≡_, refl, sym, ap, _∙_}
 use mathlib.Core.Logic.{⊎-elim}
 use mathlib.Core.Bool.{Bool, true, false, not, _&&_, _||_}
@@ -8,9 +8,9 @@ use Rattle.rules.specs.Regions.{Symmetric}
 use Rattle.rules.specs.Grid.{close, eight, four}
 use Rattle.base.proofs.Counting.{case, clash, both, left, right, either, or-left, or-right, not-true, not-false, eqb-yes, yes-eqb}
 
-close-sym : (a b : ℕ) → close a b ≡ true → close b a ≡ true
+close-sym : (a b : ℕ) → close 1 a b ≡ true → close 1 b a ≡ true
 unfolding close
-close-sym a b e = both (right (leb a (suc b)) (leb b (suc a)) e) (left (leb a (suc b)) (leb b (suc a)) e)
+close-sym a b e = both (right (leb a (b + 1)) (leb b (a + 1)) e) (left (leb a (b + 1)) (leb b (a + 1)) e)
 
 eqb-sym : (a b : ℕ) → eqb a b ≡ true → eqb b a ≡ true
 eqb-sym a b e = yes-eqb (sym (eqb-yes {m = a} {n = b} e))
@@ -21,8 +21,8 @@ other-sym a b e = not-false (case (eqb b a) (λ y. clash (eqb-sym b a y) (not-tr
 pub eight-symmetric : (w : ℕ) → Symmetric (eight w)
 unfolding Symmetric eight
 eight-symmetric w p q e =
-    let r = close (p / w) (q / w) in
-    let c = close (p % w) (q % w) in
+    let r = close 1 (p / w) (q / w) in
+    let c = close 1 (p % w) (q % w) in
     let d = not (eqb p q) in
     both (both (close-sym (p / w) (q / w) (left r c (left (r && c) d e))) (close-sym (p % w) (q % w) (right r c (left (r && c) d e)))) (other-sym p q (right (r && c) d e))
 
@@ -36,4 +36,4 @@ four-symmetric w p q e =
 
 pub eight-irreflexive : (w p : ℕ) → eight w p p ≡ false
 unfolding eight
-eight-irreflexive w p = case (eight w p p) (λ y. clash (yes-eqb {m = p} refl) (not-true (right (close (p / w) (p / w) && close (p % w) (p % w)) (not (eqb p p)) y))) (λ z. z)
+eight-irreflexive w p = case (eight w p p) (λ y. clash (yes-eqb {m = p} refl) (not-true (right (close 1 (p / w) (p / w) && close 1 (p % w) (p % w)) (not (eqb p p)) y))) (λ z. z)

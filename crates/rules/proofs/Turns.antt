@@ -21,7 +21,7 @@ use Rattle.base.proofs.Counting.{case, clash, both, left, right, either, or-lef
 pub record Map (h w h′ w′ : ℕ) (row col : ℕ → ℕ → ℕ) : Type 0 where
   pub row-below : (y x : ℕ) → y < h → x < w → row y x < h′
   pub col-below : (y x : ℕ) → y < h → x < w → col y x < w′
-  pub keeps : (y x u v : ℕ) → y < h → x < w → u < h → v < w → close y u ≡ true → close x v ≡ true → (close (row y x) (row u v) ≡ true) × (close (col y x) (col u v) ≡ true)
+  pub keeps : (y x u v : ℕ) → y < h → x < w → u < h → v < w → close 1 y u ≡ true → close 1 x v ≡ true → (close 1 (row y x) (row u v) ≡ true) × (close 1 (col y x) (col u v) ≡ true)
   pub lines : (y x u v : ℕ) → (y ≡ u) ⊎ (x ≡ v) → (row y x ≡ row u v) ⊎ (col y x ≡ col u v)
 
 -- the map on places
@@ -73,11 +73,11 @@ module _ (h w h′ w′ : ℕ) (row col : ℕ → ℕ → ℕ) (m : Map h w h′
     pub eight-moved : (p q : ℕ) → p < h * w → q < h * w → eight w p q ≡ true → eight w′ (moved w w′ row col p) (moved w w′ row col q) ≡ true
     unfolding eight
     eight-moved p q i j e =
-        let r = close (p / w) (q / w) in
-        let c = close (p % w) (q % w) in
+        let r = close 1 (p / w) (q / w) in
+        let c = close 1 (p % w) (q % w) in
         let d = not (eqb p q) in
         let k = m .keeps (p / w) (p % w) (q / w) (q % w) (row-of h w p i) (col-of h w p i) (row-of h w q j) (col-of h w q j) (left r c (left (r && c) d e)) (right r c (left (r && c) d e)) in
-        both (both (ap₂ close (moved-row p i) (moved-row q j) ∙ k .0) (ap₂ close (moved-col p i) (moved-col q j) ∙ k .1))
+        both (both (ap₂ (close 1) (moved-row p i) (moved-row q j) ∙ k .0) (ap₂ (close 1) (moved-col p i) (moved-col q j) ∙ k .1))
         (not-false (case (eqb (moved w w′ row col p) (moved w w′ row col q))
         (λ y. clash (yes-eqb (sym (moved-back p i) ∙ ap (moved w′ w row′ col′) (eqb-yes {m = moved w w′ row col p} {n = moved w w′ row col q} y) ∙ moved-back q j)) (not-true {b = eqb p q} (right (r && c) d e)))
         (λ z. z)))
@@ -100,12 +100,12 @@ module _ (h w h′ w′ : ℕ) (row col : ℕ → ℕ → ℕ) (m : Map h w h′
 abbrev other : ℕ → ℕ → ℕ
 other w x = w - suc x
 
-close-other : (w x v : ℕ) → x < w → v < w → close x v ≡ true → close (other w x) (other w v) ≡ true
+close-other : (w x v : ℕ) → x < w → v < w → close 1 x v ≡ true → close 1 (other w x) (other w v) ≡ true
 unfolding close
 close-other w x v i j e =
-    let a = leb-yes {m = x} {n = suc v} (left (leb x (suc v)) (leb v (suc x)) e) in
-    let b = leb-yes {m = v} {n = suc x} (right (leb x (suc v)) (leb v (suc x)) e) in
-    both (yes-leb {m = other w x} {n = suc (other w v)} (omega arith)) (yes-leb {m = other w v} {n = suc (other w x)} (omega arith))
+    let a = leb-yes {m = x} {n = v + 1} (left (leb x (v + 1)) (leb v (x + 1)) e) in
+    let b = leb-yes {m = v} {n = x + 1} (right (leb x (v + 1)) (leb v (x + 1)) e) in
+    both (yes-leb {m = other w x} {n = other w v + 1} (omega arith)) (yes-leb {m = other w v} {n = other w x + 1} (omega arith))
 
 pub mirrored : (h w : ℕ) → Map h w h w (λ y x. y) (λ y x. w - suc x)
 mirrored h w =

@@ -1,6 +1,9 @@
+pub mod Sheet
+pub mod Rows
+pub mod Grid
 pub mod Regions
 pub mod Pass
-pub mod Grid
-pub mod Cases
 pub mod Claims
+pub mod Masks
+pub mod Cases
 pub mod Carry
