@@ -1,0 +1,36 @@
+-- The two tables of a channel: what a byte decodes to, and the thresholds by which a channel is given its byte. Definitions only. Assumes nothing.
+use Prim.Native.Nat.{ℕ, _+_, _-_, _*_, _^_, _≤_, _<_}
+use mathlib.Core.Path.{_≡_}
+use mathlib.Core.Bool.{cond}
+use lib.Dec.{leb}
+use lib.Ieee.{Float, le}
+use Rattle.base.specs.Places.{count}
+use Rattle.roots.specs.Root.{NearestRoot, LeastNotBelow}
+use Rattle.roots.specs.Computed.{nearestRoot, leastNotBelow}
+use Rattle.color.specs.Doubles.{_⊘_, decimal}
+
+-- k / 255, then / 12.92
+unfoldable pub straight : ℕ → Float
+straight k = decimal k 0 ⊘ decimal 255 0 ⊘ decimal 1292 2
+
+-- what the byte k decodes to: from 11 on the double nearest to ((40 k + 561) / 10761) ^ (12 / 5)
+unfoldable pub decodeOf : ℕ → Float
+decodeOf k = cond (leb k 10) (straight k) (nearestRoot 5 ((40 * k + 561) ^ 12) (10761 ^ 12))
+
+-- the threshold of the byte j, from 1 on: the least double not below (2 j - 1) / 6589.2, and from 11 on not below ((40 j + 541) / 10761) ^ (12 / 5)
+unfoldable pub thresholdOf : ℕ → Float
+thresholdOf j = cond (leb j 10) (leastNotBelow 1 (10 * (2 * j - 1)) 65892) (leastNotBelow 5 ((40 * j + 541) ^ 12) (10761 ^ 12))
+
+-- a channel's byte: the number of thresholds not above it
+unfoldable pub byteOf : Float → ℕ
+byteOf c = count 255 (λ i. le (thresholdOf (i + 1)) c)
+
+-- ---- the same rules, said of a double
+
+pub record Decoded (k : ℕ) (y : Float) : Type 0 where
+  pub linear : k ≤ 10 → y ≡ straight k
+  pub curved : 10 < k → NearestRoot 5 ((40 * k + 561) ^ 12) (10761 ^ 12) y
+
+pub record Threshold (j : ℕ) (y : Float) : Type 0 where
+  pub linear : j ≤ 10 → LeastNotBelow 1 (10 * (2 * j - 1)) 65892 y
+  pub curved : 10 < j → LeastNotBelow 5 ((40 * j + 541) ^ 12) (10761 ^ 12) y
