@@ -125,6 +125,11 @@ yes-any (suc n) t p h y =
 pub any-no : (n : ℕ) (t : ℕ → Bool) → any n t ≡ false → (p : ℕ) → p < n → t p ≡ false
 any-no n t e p h = case (t p) (λ y. clash (yes-any n t p h y) e) (λ z. z)
 
+pub any-same : (n : ℕ) (t u : ℕ → Bool) → ((p : ℕ) → p < n → t p ≡ u p) → any n t ≡ any n u
+unfolding any
+any-same zero t u f = refl
+any-same (suc n) t u f = rw (f n (lt-suc-self n), any-same n t u (λ p h. f p (le-step h)))
+
 -- ---- count
 
 bit-le : {a b : Bool} → (a ≡ true → b ≡ true) → cond a 1 0 ≤ cond b 1 0

@@ -2,8 +2,9 @@ pub mod Reading
 pub mod Roots
 pub mod Passes
 pub mod Runs
+pub mod Images
 pub mod Grids
-pub mod Mirror
 pub mod More
+pub mod Sheets
+pub mod Opacity
 pub mod Labels
-pub mod Turns

@@ -21,7 +21,7 @@ use lib.Seq.{ext-getD}
 use Rattle.base.specs.Places.{table, any, count, least, times}
 use Rattle.rules.specs.Regions.{at, opaque, index, alike, link, Joined, here, step, held, spread, roots, root, inside, first, Symmetric}
 use Rattle.rules.specs.Pass.{Rule, State, View, marked, size, few, isSmall, isLarge, small, large, smalls, view, Verdict, stay, merge, freeze, voter, votes, most, top, frequent, choose, target, judged, pending, decided, verdict, painted, merges, freezes, fates, fate, applied, pass, repaints, moves, Cleaned, clean}
-use Rattle.rules.specs.Claims.{Left, apart, frozen, locked}
+use Rattle.rules.specs.Claims.{Apart, Frozen, Left, apart, frozen, barred}
 use Rattle.base.proofs.Counting.{case, clash, both, left, right, not-true, not-false, eqb-yes, yes-eqb, leb-yes, yes-leb, no-leb, table-at, table-length, any-yes, yes-any, any-no, count-le, count-mono, count-same, count-less, count-some, count-yes, greatest-above, greatest-at, either, or-left, or-right}
 use Rattle.rules.proofs.Roots.{same-opaque, to-link, join-left, join-right, join-same, join-trans, join-sym, opaque-below, joined-root, root-below, root-le, clear-root, join-root, root-join, root-first, root-root, inside-join, join-inside, lift-join}
 
@@ -553,7 +553,7 @@ module _ (rule : Rule) (symm : Symmetric (rule .adj)) (s : State) (len : length 
 
   -- why a small region is left by a pass that repaints nothing
   pub left-why : Whole rule s → ((x : ℕ) → repaints rule s x ≡ false) → (x : ℕ) → small rule cells′ x ≡ true → Left rule (pass rule s) x
-  unfolding Whole voter view repaints first inside root
+  unfolding Whole Apart Frozen voter view repaints first inside root
   left-why whole f x h = case (pending rule v m) yes-pending no-pending
     where
       v : View
@@ -597,7 +597,7 @@ module _ (rule : Rule) (symm : Symmetric (rule .adj)) (s : State) (len : length 
 
       no-pending : pending rule v m ≡ false → Left rule (pass rule s) x
       no-pending e =
-          ⊎-elim (λ z. locked (ap (λ (c : ℤ). rule .free (index c)) (small-kept x h .1 ∙ join-same a cells jm) ∙ z))
+          ⊎-elim (λ z. barred (ap (λ (c : ℤ). rule .free (index c)) (small-kept x h .1 ∙ join-same a cells jm) ∙ z))
           (λ y. let t = any-yes n (λ p. inside cells (roots n a cells) m p && marked (s .frozen) p) y in
           let j = inside-join n a cells len symm x (t .0) o (left (inside cells (roots n a cells) m (t .0)) _ (t .2)) in
           let u = right (inside cells (roots n a cells) m (t .0)) (marked (s .frozen) (t .0)) (t .2) in

@@ -15,7 +15,7 @@ use lib.Seq.{ext-getD}
 use Rattle.base.specs.Places.{table, any, count}
 use Rattle.rules.specs.Regions.{at, opaque, index, link, Joined, here, step, held, roots, root, inside, first, Symmetric}
 use Rattle.rules.specs.Pass.{Rule, State, View, marked, size, few, isSmall, isLarge, small, large, smalls, view, Verdict, stay, merge, freeze, voter, votes, most, top, frequent, choose, target, judged, pending, decided, verdict, painted, merges, freezes, fates, fate, applied, pass, repaints, moves, fresh, Cleaned, clean}
-use Rattle.rules.specs.Claims.{repaintings, cleaned, Left, apart, frozen, locked, OneRun, TwoRuns, Demand3}
+use Rattle.rules.specs.Claims.{repaintings, cleaned, Left, OneRun, TwoRuns}
 use Rattle.base.proofs.Counting.{case, clash, both, left, right, not-true, not-false, eqb-yes, yes-eqb, leb-yes, yes-leb, no-leb, table-at, table-length, any-yes, yes-any, any-no, count-le, count-mono, count-same, count-less, count-some, count-yes}
 use Rattle.rules.proofs.Roots.{join-left, join-right, join-same, join-trans, join-sym, opaque-below, joined-root, root-below, root-le, join-root, root-first, root-root}
 use Rattle.rules.proofs.Passes.{pass-length, large-kept, large-stays, Repainted, repainted, repainted-large, small-kept, small-was, small-region, join-large, join-small, small-or-large, not-both, unpainted-kept, repaints-below, join-repaints, repainted-small, large-source, fewer-smalls, frozen-length, still, same-cells, small-counted, Whole, whole-stays, left-why}
@@ -51,7 +51,7 @@ module _ (rule : Rule) (symm : Symmetric (rule .adj)) where
 
   -- ---- one run
 
-  run-length : (k : ℕ) (s : State) → length (s .cells) ≡ rule .places → length (clean rule k s .state .cells) ≡ rule .places
+  pub run-length : (k : ℕ) (s : State) → length (s .cells) ≡ rule .places → length (clean rule k s .state .cells) ≡ rule .places
   unfolding clean
   run-length zero s len = len
   run-length (suc k) s len =
@@ -196,9 +196,8 @@ module _ (rule : Rule) (symm : Symmetric (rule .adj)) (cells : List ℤ) (len : 
       record {
         repainted-same = λ x g. runs-large rule symm p q (fresh rule cells) len h x (run-source rule symm p (fresh rule cells) len x g .0);
         large-same = runs-large rule symm p q (fresh rule cells) len h;
+        first = one-run p;
+        second = one-run q;
         settled = λ g. runs-settled rule symm p q (fresh rule cells) len fresh-frozen g h;
         rest = runs-left rule symm p (fresh rule cells) len fresh-whole;
       }
-
-  pub demand-3 : (p q : ℕ) → p ≤ q → Demand3 rule cells p q
-  demand-3 p q h = record { one = one-run p; other = one-run q; two = two-runs p q h }

@@ -48,14 +48,23 @@ module _ (s : Sheet) (p : ℕ) where
   opposite c =
       elim (stepTo (s .height) (s .width) (p / s .width) (p % s .width) (negℤ (c .sy)) (negℤ (c .sx))) [ none ↦ minusOne | some q ↦ at (s .cells) q ]
 
-  -- p, of index a, is the corner c of a staircase of a over b
+  -- both arms of the corner are a
+  unfoldable pub arms : Corner → ℤ → Bool
+  arms c a = finds (pos 0) (c .sx) a && finds (c .sy) (pos 0) a
+
+  -- the other six neighbours are b
+  unfoldable pub around : Corner → ℤ → Bool
+  around c b =
+      finds (negℤ (c .sy)) (negℤ (c .sx)) b && finds (negℤ (c .sy)) (pos 0) b && finds (negℤ (c .sy)) (c .sx) b
+      && finds (pos 0) (negℤ (c .sx)) b && finds (c .sy) (negℤ (c .sx)) b && finds (c .sy) (c .sx) b
+
+  -- the staircase of a goes on beyond both arms
+  unfoldable pub goesOn : Corner → ℤ → Bool
+  goesOn c a = finds (negℤ (c .sy)) (c .sx +ℤ c .sx) a && finds (c .sy +ℤ c .sy) (negℤ (c .sx)) a
+
+  -- p, of index a, is the corner c of a staircase of a over another index b
   unfoldable pub isCorner : Corner → ℤ → ℤ → Bool
-  isCorner c a b =
-      finds (pos 0) (c .sx) a && finds (c .sy) (pos 0) a
-      && nonNeg b && not (same b a)
-      && finds (negℤ (c .sy)) (negℤ (c .sx)) b && finds (negℤ (c .sy)) (pos 0) b && finds (pos 0) (negℤ (c .sx)) b
-      && finds (negℤ (c .sy)) (c .sx) b && finds (c .sy) (negℤ (c .sx)) b && finds (c .sy) (c .sx) b
-      && finds (negℤ (c .sy)) (c .sx +ℤ c .sx) a && finds (c .sy +ℤ c .sy) (negℤ (c .sx)) a
+  isCorner c a b = nonNeg b && not (same b a) && arms c a && around c b && goesOn c a
 
   -- what the cell a at p becomes by the first of some corners that it is
   unfoldable pub trimmedBy : List Corner → ℤ → ℤ

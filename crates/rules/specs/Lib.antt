@@ -3,12 +3,11 @@ pub mod Palette
 pub mod Grid
 pub mod Regions
 pub mod Pass
-pub mod Claims
 pub mod Corners
 pub mod Outline
 pub mod Run
+pub mod Claims
 pub mod Masks
 pub mod Rows
 pub mod Entries
 pub mod Cases
-pub mod Carry

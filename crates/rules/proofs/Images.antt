@@ -1,0 +1,81 @@
+-- No image comes back in a run: cleaning that watches for one is cleaning. Assumes nothing.
+use Prim.Native.Nat.{ℕ, zero, suc, _≤_, _<_}
+use mathlib.Core.Path.{_≡_, refl, sym, ap, _∙_, subst}
+use mathlib.Core.Logic.{⊎-elim}
+use mathlib.Core.Bool.{Bool, true, false, _&&_, _||_, cond, false≢true}
+use mathlib.Core.List.{List, [], _∷_}
+use native.Mathlib.Nat.{le-refl, le-trans, le-of-lt, lt-irrefl, lt-of-lt-of-le}
+use native.Mathlib.Omega.{arith}
+use lib.IntN.{ℤ, pos, negsuc}
+use lib.ListN.{length}
+use Rattle.base.proofs.Counting.{case, left, right, either, eqb-yes}
+use Rattle.rules.specs.Regions.{Symmetric}
+use Rattle.rules.specs.Pass.{Rule, State, smalls, fates, applied, pass, moves, fresh, Cleaned, clean}
+use Rattle.rules.specs.Corners.{same}
+use Rattle.rules.specs.Claims.{sameCells, among, watched}
+use Rattle.rules.proofs.Passes.{pass-length, fewer-smalls}
+use Rattle.rules.proofs.Runs.{clean-go, clean-stop, moves-yes}
+
+same-yes : (a b : ℤ) → same a b ≡ true → a ≡ b
+unfolding same
+same-yes (pos i) (pos j) e = ap pos (eqb-yes {m = i} {n = j} e)
+same-yes (negsuc i) (negsuc j) e = ap negsuc (eqb-yes {m = i} {n = j} e)
+same-yes (pos i) (negsuc j) e = absurd (false≢true e)
+same-yes (negsuc i) (pos j) e = absurd (false≢true e)
+
+same-cells-yes : (a b : List ℤ) → sameCells a b ≡ true → a ≡ b
+unfolding sameCells
+same-cells-yes [] [] e = refl
+same-cells-yes [] (y ∷ ys) e = absurd (false≢true e)
+same-cells-yes (x ∷ xs) [] e = absurd (false≢true e)
+same-cells-yes (x ∷ xs) (y ∷ ys) e =
+    let h = same-yes x y (left (same x y) (sameCells xs ys) e) in
+    let t = same-cells-yes xs ys (right (same x y) (sameCells xs ys) e) in
+    cc
+
+-- every image seen has at least m small regions
+data Many (rule : Rule) (m : ℕ) : List (List ℤ) → Type 0 where
+  none : Many rule m []
+  more : {c : List ℤ} {cs : List (List ℤ)} → m ≤ smalls rule c → Many rule m cs → Many rule m (c ∷ cs)
+
+fewer : {rule : Rule} {m k : ℕ} {cs : List (List ℤ)} → k ≤ m → Many rule m cs → Many rule k cs
+fewer h none = none
+fewer h (more g t) = more (le-trans h g) (fewer h t)
+
+-- an image with fewer small regions than all those seen is none of them
+unseen : {rule : Rule} {m : ℕ} {cs : List (List ℤ)} (c : List ℤ) → smalls rule c < m → Many rule m cs → among c cs ≡ false
+unfolding among
+unseen c h none = refl
+unseen {rule} {m} c h (more {c = d} {cs = cs} g t) =
+    case (sameCells c d || among c cs)
+    (λ y. ⊎-elim
+    (λ e. absurd (lt-irrefl _ (lt-of-lt-of-le h (subst (λ (x : List ℤ). m ≤ smalls rule x) (sym (same-cells-yes c d e)) g))))
+    (λ e. absurd (false≢true (sym (unseen c h t) ∙ e)))
+    (either (sameCells c d) (among c cs) y))
+    (λ z. z)
+
+watched-go : (rule : Rule) (k : ℕ) (s : State) (seen : List (List ℤ)) → moves rule (fates rule s) ≡ true → among (pass rule s .cells) seen ≡ false →
+    watched rule (suc k) s seen ≡ record { state = watched rule k (pass rule s) (pass rule s .cells ∷ seen) .state; count = suc (watched rule k (pass rule s) (pass rule s .cells ∷ seen) .count) }
+unfolding watched pass
+watched-go rule k s seen y z = rw (y, z, watched)
+
+watched-stop : (rule : Rule) (k : ℕ) (s : State) (seen : List (List ℤ)) → moves rule (fates rule s) ≡ false → watched rule (suc k) s seen ≡ record { state = pass rule s; count = 0 }
+unfolding watched pass
+watched-stop rule k s seen z = rw (z, watched)
+
+module _ (rule : Rule) (symm : Symmetric (rule .adj)) where
+  watched-same : (k : ℕ) (s : State) (seen : List (List ℤ)) → length (s .cells) ≡ rule .places → Many rule (smalls rule (s .cells)) seen → watched rule k s seen ≡ clean rule k s
+  unfolding watched clean
+  watched-same zero s seen len m = refl
+  watched-same (suc k) s seen len m =
+      case (moves rule (fates rule s))
+      (λ y. let w = moves-yes rule s y in
+      let l = fewer-smalls rule symm s len (w .0) (w .1) in
+      let i = watched-same k (pass rule s) (pass rule s .cells ∷ seen) (pass-length rule symm s len) (more (le-refl _) (fewer (le-of-lt l) m)) in
+      watched-go rule k s seen y (unseen (pass rule s .cells) l m) ∙ ap (λ (c : Cleaned). record { state = c .state; count = suc (c .count) }) i ∙ sym (clean-go rule k s y))
+      (λ z. watched-stop rule k s seen z ∙ sym (clean-stop rule k s z))
+
+  -- watching for an image that comes back changes no run
+  pub unwatched : (k : ℕ) (cells : List ℤ) → length cells ≡ rule .places → watched rule k (fresh rule cells) (cells ∷ []) ≡ clean rule k (fresh rule cells)
+  unfolding fresh
+  unwatched k cells len = watched-same k (fresh rule cells) (cells ∷ []) len (more (le-refl _) none)
