@@ -7,4 +7,5 @@ pub mod Grids
 pub mod More
 pub mod Sheets
 pub mod Opacity
+pub mod Examples
 pub mod Labels

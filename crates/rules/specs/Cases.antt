@@ -1,112 +1,139 @@
--- M1 to M8 of document 01, by a stand-in for the colour crate: distances by the rounded operations and a root worked out from whole numbers.
-use Prim.Native.Nat.{ℕ, zero, suc, _+_, _*_, _-_, _^_, _/_}
-use mathlib.Core.Path.{_≡_, refl}
-use mathlib.Core.Bool.{Bool, true, false, cond}
+-- Worked examples of the rules: the specification's M1 to M12 in their order, then examples of errors that this code invites.
+-- Definitions only. Assumes nothing.
+use Prim.Native.Nat.{ℕ}
+use mathlib.Core.Bool.{Bool, true, false}
 use mathlib.Core.List.{List, [], _∷_, map}
-use lib.Dec.{leb, ltb}
+use mathlib.Core.Option.{Option, none, some}
 use lib.IntN.{ℤ, pos, negsuc}
-use lib.ListN.{getD}
-use lib.Ieee.{Float, nan, inf, fin, binary64, ofInt, add, sub, mul, up, down, round}
-use lib.Ieee as Ieee
-use lib.Count
-use Rattle.base.specs.Places.{tableFrom, table, any, count, least, greatest, times}
-use Rattle.rules.specs.Regions.{at, opaque, index, alike, link, held, spread, roots, inside, first, label}
-use Rattle.rules.specs.Pass
-use Rattle.rules.specs.Pass.{Rule, State, clean}
-use Rattle.rules.specs.Grid.{close, eight}
+use lib.ListN.{replicate}
+use lib.Ieee.{Float}
+use Rattle.color.specs.Doubles.{decimal}
+use Rattle.rules.specs.declared.Outline.{Outline}
+use Rattle.rules.specs.declared.Outline.the-variants.{Auto}
+use Rattle.rules.specs.declared.LineIndex.{LineIndex}
+use Rattle.rules.specs.declared.LineIndex.the-variants.{Nothing, Entry}
+use Rattle.rules.specs.Sheet.{Sheet}
+use Rattle.rules.specs.Palette.{Palette}
+use Rattle.rules.specs.Corners.{trim}
+use Rattle.rules.specs.Outline.{outline}
+use Rattle.rules.specs.Run.{Limits, tidy}
+use Rattle.rules.specs.Entries.{orphansRefusal}
 
--- the whole root of x, below 2 ^ k
-unfoldable pub wholeRoot : ℕ → ℕ → ℕ
-wholeRoot zero x = 0
-wholeRoot (suc k) x = let r = 2 * wholeRoot k (x / 4) in cond (leb ((r + 1) * (r + 1)) x) (r + 1) r
+-- a call of a rule
+pub data Call : Type 0 where
+  cleans : ℕ → Palette → Limits → Sheet → Call
+  trims : Sheet → Call
+  outlines : Bool → Bool → Outline → Sheet → Palette → Call
+  asks : List ℤ → ℕ → ℕ → Palette → Limits → ℕ → ℕ → Call
 
--- a root to 64 binary places, with one more that says whether it is inexact, rounded once
-unfoldable pub root : Float → Float
-root nan = nan
-root (inf s) = cond s nan (inf s)
-root (fin s m e) =
-    let x = m * up e * 2 ^ 128 / down e in
-    let r = wholeRoot 80 x in
-    round binary64 false (2 * r + cond (ltb (r * r) x) 1 0) (2 ^ 65)
+-- what it comes to: a sheet with a number of repainting passes, an outline's index and clipping, or a refusal
+pub data Outcome : Type 0 where
+  cleaned : List ℤ → ℕ → Outcome
+  trimmed : List ℤ → Outcome
+  outlined : ℕ → ℕ → List ℤ → LineIndex → Bool → Outcome
+  refused : Option ℕ → Outcome
 
-record Colour : Type 0 where
-  L : ℕ
-  a : ℕ
-  b : ℕ
+unfoldable pub outcome : Call → Outcome
+outcome (cleans k palette limits s) = let t = tidy k palette limits s in cleaned (t .sheet .cells) (t .passes)
+outcome (trims s) = trimmed (trim s .cells)
+outcome (outlines allowed fixed how s palette) =
+    let o = outline allowed fixed how s palette in
+    outlined (o .sheet .height) (o .sheet .width) (o .sheet .cells) (o .index) (o .clipped)
+outcome (asks cells h w palette limits passes work) = refused (orphansRefusal cells h w palette limits passes work)
 
-unfoldable square : ℕ → ℕ → Float
-square x y = let d = sub binary64 (ofInt binary64 (pos x)) (ofInt binary64 (pos y)) in mul binary64 d d
+pub record Case : Type 0 where
+  pub call : Call
+  pub gives : Outcome
 
-unfoldable distance : Colour → Colour → Float
-distance x y = root (add binary64 (add binary64 (square (x .L) (y .L)) (square (x .a) (y .a))) (square (x .b) (y .b)))
+abbrev case : Call → Outcome → Case
+case c o = record { call = c; gives = o }
 
-abbrev entry : List Colour → ℕ → Colour
-entry l i = getD l i (record { L = 0; a = 0; b = 0 })
+-- ---- the words of the examples
 
-abbrev Q : List Colour
-Q = record { L = 0; a = 0; b = 0 } ∷ record { L = 6; a = 8; b = 0 } ∷ record { L = 3; a = 4; b = 0 } ∷ []
+abbrev whole : ℕ → Float
+whole n = decimal n 0
 
-abbrev Q′ : List Colour
-Q′ = record { L = 0; a = 0; b = 0 } ∷ record { L = 6; a = 8; b = 0 } ∷ record { L = 6; a = 4; b = 0 } ∷ []
+-- a sheet of opaque cells
+abbrev sheet : ℕ → ℕ → List ℕ → Sheet
+sheet h w cells = record { cells = map pos cells; height = h; width = w }
 
-abbrev Far : List Colour
-Far = record { L = 100; a = 0; b = 0 } ∷ record { L = 0; a = 0; b = 0 } ∷ record { L = 5; a = 0; b = 0 } ∷ record { L = 3; a = 0; b = 0 } ∷ record { L = 98; a = 0; b = 0 } ∷ record { L = 99; a = 0; b = 0 } ∷ []
+abbrev cleanedTo : List ℕ → ℕ → Outcome
+cleanedTo cells n = cleaned (map pos cells) n
 
--- a sheet of rows of w cells, cleaned
-record Case : Type 0 where
-  palette : List Colour
-  h : ℕ
-  w : ℕ
-  cells : List ℕ
-  limit : ℕ
-  reach : ℕ
-  passes : ℕ
-  after : List ℕ
-  repainting : ℕ
+-- a region limit and a colour limit
+abbrev within : ℕ → ℕ → Limits
+within region colour = record { region = pos region; colour = whole colour }
 
-record Outcome : Type 0 where
-  sheet : List ℤ
-  repainting : ℕ
+-- a palette of whole numbers, three for each entry
+abbrev colours : ℕ → List ℕ → Palette
+colours k l = record { lab = map whole l; count = k }
 
-rule : Case → Rule
-rule c =
-    record {
-      places = c .h * c .w;
-      adj = eight (c .w);
-      limit = pos (c .limit);
-      free = λ i. true;
-      dist = λ i j. distance (entry (c .palette) i) (entry (c .palette) j);
-      reach = ofInt binary64 (pos (c .reach));
-    }
+-- the palette Q, and Q with another entry 2
+abbrev Q : Palette
+Q = colours 3 (0 ∷ 0 ∷ 0 ∷ 6 ∷ 8 ∷ 0 ∷ 3 ∷ 4 ∷ 0 ∷ [])
 
-result : Case → Outcome
-result c =
-    let r = clean (rule c) (c .passes) (Pass.fresh (rule c) (map pos (c .cells))) in
-    record { sheet = r .state .cells; repainting = r .count }
+abbrev Q′ : Palette
+Q′ = colours 3 (0 ∷ 0 ∷ 0 ∷ 6 ∷ 8 ∷ 0 ∷ 6 ∷ 4 ∷ 0 ∷ [])
 
-abbrev cases : List Case
+-- a centre of 2 in a sheet of 0, and the sheet without it
+abbrev spot : Sheet
+spot = sheet 3 3 (0 ∷ 0 ∷ 0 ∷ 0 ∷ 2 ∷ 0 ∷ 0 ∷ 0 ∷ 0 ∷ [])
+
+abbrev spotKept : Outcome
+spotKept = cleanedTo (0 ∷ 0 ∷ 0 ∷ 0 ∷ 2 ∷ 0 ∷ 0 ∷ 0 ∷ 0 ∷ []) 0
+
+-- one cell of 0
+abbrev one : Sheet
+one = sheet 1 1 (0 ∷ [])
+
+-- no colour in use, in 768 doubles
+abbrev blank : ℕ → Palette
+blank k = record { lab = replicate 768 (whole 0); count = k }
+
+-- ---- the examples
+
+unfoldable pub cases : List Case
 cases =
-    record { palette = Q; h = 3; w = 3; cells = 0 ∷ 0 ∷ 0 ∷ 0 ∷ 2 ∷ 0 ∷ 0 ∷ 0 ∷ 0 ∷ []; limit = 2; reach = 25; passes = 5; after = 0 ∷ 0 ∷ 0 ∷ 0 ∷ 0 ∷ 0 ∷ 0 ∷ 0 ∷ 0 ∷ []; repainting = 1 }
-    ∷ record { palette = Q; h = 3; w = 3; cells = 0 ∷ 0 ∷ 0 ∷ 0 ∷ 2 ∷ 0 ∷ 0 ∷ 0 ∷ 0 ∷ []; limit = 2; reach = 5; passes = 5; after = 0 ∷ 0 ∷ 0 ∷ 0 ∷ 2 ∷ 0 ∷ 0 ∷ 0 ∷ 0 ∷ []; repainting = 0 }
-    ∷ record { palette = Q; h = 1; w = 4; cells = 0 ∷ 0 ∷ 1 ∷ 2 ∷ []; limit = 2; reach = 25; passes = 1; after = 0 ∷ 0 ∷ 0 ∷ 2 ∷ []; repainting = 1 }
-    ∷ record { palette = Q; h = 1; w = 4; cells = 0 ∷ 0 ∷ 1 ∷ 2 ∷ []; limit = 2; reach = 25; passes = 2; after = 0 ∷ 0 ∷ 0 ∷ 0 ∷ []; repainting = 2 }
-    ∷ record { palette = Q; h = 3; w = 3; cells = 0 ∷ 0 ∷ 0 ∷ 0 ∷ 2 ∷ 0 ∷ 0 ∷ 0 ∷ 0 ∷ []; limit = 1; reach = 25; passes = 5; after = 0 ∷ 0 ∷ 0 ∷ 0 ∷ 2 ∷ 0 ∷ 0 ∷ 0 ∷ 0 ∷ []; repainting = 0 }
-    ∷ record { palette = Q; h = 1; w = 1; cells = 0 ∷ []; limit = 2; reach = 25; passes = 5; after = 0 ∷ []; repainting = 0 }
-    ∷ record { palette = Q; h = 1; w = 5; cells = 0 ∷ 0 ∷ 2 ∷ 1 ∷ 1 ∷ []; limit = 2; reach = 25; passes = 5; after = 0 ∷ 0 ∷ 0 ∷ 1 ∷ 1 ∷ []; repainting = 1 }
-    ∷ record { palette = Q′; h = 1; w = 5; cells = 0 ∷ 0 ∷ 2 ∷ 1 ∷ 1 ∷ []; limit = 2; reach = 25; passes = 5; after = 0 ∷ 0 ∷ 1 ∷ 1 ∷ 1 ∷ []; repainting = 1 }
-    ∷ record { palette = Q; h = 0; w = 7; cells = []; limit = 2; reach = 25; passes = 5; after = []; repainting = 0 }
-    -- beyond the document: most votes before least distance; a shared neighbour counts once; a frozen region stays frozen
-    ∷ record { palette = Q′; h = 3; w = 3; cells = 0 ∷ 0 ∷ 0 ∷ 0 ∷ 2 ∷ 1 ∷ 0 ∷ 1 ∷ 1 ∷ []; limit = 2; reach = 25; passes = 5; after = 0 ∷ 0 ∷ 0 ∷ 0 ∷ 0 ∷ 1 ∷ 0 ∷ 1 ∷ 1 ∷ []; repainting = 1 }
-    ∷ record { palette = Q; h = 3; w = 3; cells = 2 ∷ 2 ∷ 0 ∷ 1 ∷ 1 ∷ 0 ∷ 1 ∷ 1 ∷ 0 ∷ []; limit = 3; reach = 25; passes = 5; after = 0 ∷ 0 ∷ 0 ∷ 1 ∷ 1 ∷ 0 ∷ 1 ∷ 1 ∷ 0 ∷ []; repainting = 1 }
-    ∷ record { palette = Far; h = 1; w = 8; cells = 5 ∷ 4 ∷ 0 ∷ 0 ∷ 1 ∷ 2 ∷ 3 ∷ 3 ∷ []; limit = 2; reach = 25; passes = 5; after = 0 ∷ 0 ∷ 0 ∷ 0 ∷ 1 ∷ 3 ∷ 3 ∷ 3 ∷ []; repainting = 2 }
+    -- M1 to M8: cleaning
+    case (cleans 5 Q (within 2 25) spot) (cleanedTo (0 ∷ 0 ∷ 0 ∷ 0 ∷ 0 ∷ 0 ∷ 0 ∷ 0 ∷ 0 ∷ []) 1)
+    ∷ case (cleans 5 Q (within 2 5) spot) spotKept
+    ∷ case (cleans 1 Q (within 2 25) (sheet 1 4 (0 ∷ 0 ∷ 1 ∷ 2 ∷ []))) (cleanedTo (0 ∷ 0 ∷ 0 ∷ 2 ∷ []) 1)
+    ∷ case (cleans 2 Q (within 2 25) (sheet 1 4 (0 ∷ 0 ∷ 1 ∷ 2 ∷ []))) (cleanedTo (0 ∷ 0 ∷ 0 ∷ 0 ∷ []) 2)
+    ∷ case (cleans 5 Q (within 1 25) spot) spotKept
+    ∷ case (cleans 5 Q (within 2 25) one) (cleanedTo (0 ∷ []) 0)
+    ∷ case (cleans 5 Q (within 2 25) (sheet 1 5 (0 ∷ 0 ∷ 2 ∷ 1 ∷ 1 ∷ []))) (cleanedTo (0 ∷ 0 ∷ 0 ∷ 1 ∷ 1 ∷ []) 1)
+    ∷ case (cleans 5 Q′ (within 2 25) (sheet 1 5 (0 ∷ 0 ∷ 2 ∷ 1 ∷ 1 ∷ []))) (cleanedTo (0 ∷ 0 ∷ 1 ∷ 1 ∷ 1 ∷ []) 1)
+    ∷ case (cleans 5 Q (within 2 25) (sheet 0 7 [])) (cleanedTo [] 0)
+    -- M9 and M10: corners
+    ∷ case (trims (sheet 4 4 (0 ∷ 0 ∷ 0 ∷ 1 ∷ 0 ∷ 1 ∷ 1 ∷ 0 ∷ 0 ∷ 1 ∷ 0 ∷ 0 ∷ 1 ∷ 0 ∷ 0 ∷ 0 ∷ [])))
+    (trimmed (map pos (0 ∷ 0 ∷ 0 ∷ 1 ∷ 0 ∷ 0 ∷ 1 ∷ 0 ∷ 0 ∷ 1 ∷ 0 ∷ 0 ∷ 1 ∷ 0 ∷ 0 ∷ 0 ∷ [])))
+    ∷ case (trims (sheet 3 4 (0 ∷ 0 ∷ 0 ∷ 1 ∷ 0 ∷ 1 ∷ 1 ∷ 0 ∷ 0 ∷ 1 ∷ 0 ∷ 0 ∷ [])))
+    (trimmed (map pos (0 ∷ 0 ∷ 0 ∷ 1 ∷ 0 ∷ 1 ∷ 1 ∷ 0 ∷ 0 ∷ 1 ∷ 0 ∷ 0 ∷ [])))
+    -- M11 and M12: outlines, padded and not
+    ∷ case (outlines true true (Auto (whole 0)) one Q)
+    (outlined 3 3 (negsuc 0 ∷ pos 0 ∷ negsuc 0 ∷ pos 0 ∷ pos 0 ∷ pos 0 ∷ negsuc 0 ∷ pos 0 ∷ negsuc 0 ∷ []) (Entry 0) false)
+    ∷ case (outlines false true (Auto (whole 0)) one Q) (outlined 1 1 (pos 0 ∷ []) Nothing true)
+    -- most votes before least distance
+    ∷ case (cleans 5 Q′ (within 2 25) (sheet 3 3 (0 ∷ 0 ∷ 0 ∷ 0 ∷ 2 ∷ 1 ∷ 0 ∷ 1 ∷ 1 ∷ [])))
+    (cleanedTo (0 ∷ 0 ∷ 0 ∷ 0 ∷ 0 ∷ 1 ∷ 0 ∷ 1 ∷ 1 ∷ []) 1)
+    -- a neighbour that two cells of a region share counts once
+    ∷ case (cleans 5 Q (within 3 25) (sheet 3 3 (2 ∷ 2 ∷ 0 ∷ 1 ∷ 1 ∷ 0 ∷ 1 ∷ 1 ∷ 0 ∷ [])))
+    (cleanedTo (0 ∷ 0 ∷ 0 ∷ 1 ∷ 1 ∷ 0 ∷ 1 ∷ 1 ∷ 0 ∷ []) 1)
+    -- a region frozen in the first pass stays frozen when a nearer one comes to touch it
+    ∷ case (cleans 5 (colours 6 (100 ∷ 0 ∷ 0 ∷ 0 ∷ 0 ∷ 0 ∷ 5 ∷ 0 ∷ 0 ∷ 3 ∷ 0 ∷ 0 ∷ 98 ∷ 0 ∷ 0 ∷ 99 ∷ 0 ∷ 0 ∷ [])) (within 2 25)
+    (sheet 1 8 (5 ∷ 4 ∷ 0 ∷ 0 ∷ 1 ∷ 2 ∷ 3 ∷ 3 ∷ [])))
+    (cleanedTo (0 ∷ 0 ∷ 0 ∷ 0 ∷ 1 ∷ 3 ∷ 3 ∷ 3 ∷ []) 2)
+    -- small regions don't vote: of two that touch, only the one beside a large region is repainted
+    ∷ case (cleans 1 Q (within 3 25) (sheet 1 6 (0 ∷ 0 ∷ 0 ∷ 2 ∷ 1 ∷ 1 ∷ [])))
+    (cleanedTo (0 ∷ 0 ∷ 0 ∷ 0 ∷ 1 ∷ 1 ∷ []) 1)
+    -- corners read the sheet as it was: a cell that was replaced doesn't complete another corner
+    ∷ case (trims (sheet 5 5 (0 ∷ 1 ∷ 0 ∷ 0 ∷ 0 ∷ 1 ∷ 1 ∷ 1 ∷ 1 ∷ 0 ∷ 1 ∷ 0 ∷ 0 ∷ 1 ∷ 0 ∷ 1 ∷ 0 ∷ 1 ∷ 0 ∷ 1 ∷ 0 ∷ 0 ∷ 0 ∷ 0 ∷ 0 ∷ [])))
+    (trimmed (map pos (0 ∷ 1 ∷ 0 ∷ 0 ∷ 0 ∷ 1 ∷ 1 ∷ 1 ∷ 0 ∷ 0 ∷ 1 ∷ 0 ∷ 0 ∷ 1 ∷ 0 ∷ 1 ∷ 0 ∷ 1 ∷ 0 ∷ 1 ∷ 0 ∷ 0 ∷ 0 ∷ 0 ∷ 0 ∷ [])))
+    -- the nearest entry goes by the rounded distance: entry 1 has the lesser square, yet both are at distance 1, and the lower index wins
+    ∷ case (outlines false true (Auto (whole 1)) (record { cells = pos 0 ∷ negsuc 0 ∷ []; height = 1; width = 2 })
+    (record { lab = whole 1 ∷ decimal 1490116119384765625 26 ∷ whole 0 ∷ whole 1 ∷ whole 0 ∷ whole 0 ∷ []; count = 2 }))
+    (outlined 1 2 (pos 0 ∷ pos 0 ∷ []) (Entry 0) true)
+    -- indices are checked from region limit 2 on, and not at 1
+    ∷ case (asks (pos 2 ∷ []) 1 1 (blank 2) (within 2 25) 5 8) (refused (some 7))
+    ∷ case (asks (pos 2 ∷ []) 1 1 (blank 2) (within 1 25) 5 8) (refused none)
     ∷ []
-
-expected : Case → Outcome
-expected c = record { sheet = map pos (c .after); repainting = c .repainting }
-
--- one theorem over the list
-examples : map result cases ≡ map expected cases
-unfolding expected result rule distance square root wholeRoot clean Pass.moves Pass.applied Pass.fates Pass.fate Pass.verdict Pass.decided Pass.pending Pass.judged Pass.target Pass.choose Pass.most Pass.top Pass.fresh Pass.frequent Pass.votes Pass.voter Pass.view Pass.isLarge Pass.few Pass.size Pass.marked Pass.painted Pass.merges Pass.freezes
-    tableFrom table any count least greatest times at opaque index alike link held spread roots inside first close eight
-    ofInt add sub mul round Ieee.lt Ieee.neg Ieee.sum Ieee.units Ieee.odd Ieee.size Ieee.span Ieee.climb Count.trailingZeros
-examples = refl
