@@ -6,7 +6,7 @@ use mathlib.Core.Option.{Option, none, some}
 use Rattle.base.specs.declared.Filling.{Filling}
 use Rattle.base.specs.declared.Filling.the-variants.{Done, Refused}
 
--- one row of document 01's table
+-- one row of the table of refusals
 pub record Row : Type 0 where
   pub number : ℕ
   pub applies : Bool

@@ -29,6 +29,7 @@ dist2 p q =
     let d2 = p .b ⊖ q .b in
     d0 ⊗ d0 ⊕ d1 ⊗ d1 ⊕ d2 ⊗ d2
 
+-- the root of that
 unfoldable pub distance : Lab → Lab → Float
 distance p q = sqrtOf (dist2 p q)
 
@@ -54,7 +55,7 @@ rgbFromXyz =
 unfoldable pub white : List Float
 white = decimal 95047 5 ∷ decimal 1 0 ∷ decimal 108883 5 ∷ []
 
--- up to here, 0.008856, the cube root gives way to a line: 7.787 t + 16 / 116
+-- up to this value the cube root gives way to a line, slope t + shift
 unfoldable pub edge : Float
 edge = decimal 8856 6
 
@@ -64,25 +65,28 @@ slope = decimal 7787 3
 unfoldable pub shift : Float
 shift = decimal 16 0 ⊘ decimal 116 0
 
--- up to here, 0.2068966, the cube gives way to that line's inverse
+-- up to this value the cube gives way to that line's inverse
 unfoldable pub edgeInv : Float
 edgeInv = decimal 2068966 7
 
 -- ---- conversions
 
--- v0 m0 + v1 m1 + v2 m2 for each row m, summed left to right
+-- v0 m0 + v1 m1 + v2 m2, summed left to right
 unfoldable pub dot : List Float → List Float → Float
 dot v m = getD v 0 nan ⊗ getD m 0 nan ⊕ getD v 1 nan ⊗ getD m 1 nan ⊕ getD v 2 nan ⊗ getD m 2 nan
 
+-- that for each row m of a matrix
 unfoldable pub matVec : List (List Float) → List Float → List Float
 matVec m v = dot v (getD m 0 []) ∷ dot v (getD m 1 []) ∷ dot v (getD m 2 []) ∷ []
 
+-- CIELAB's function of a part of XYZ, and its inverse
 unfoldable pub labF : Float → Float
 labF t = cond (lt edge t) (cbrtOf t) (slope ⊗ t ⊕ shift)
 
 unfoldable pub labFInv : Float → Float
 labFInv t = cond (lt edgeInv t) (t ⊗ t ⊗ t) ((t ⊖ shift) ⊘ slope)
 
+-- XYZ to CIELAB
 unfoldable pub labOfXyz : List Float → Lab
 labOfXyz v =
     let fx = labF (getD v 0 nan ⊘ getD white 0 nan) in
@@ -90,7 +94,7 @@ labOfXyz v =
     let fz = labF (getD v 2 nan ⊘ getD white 2 nan) in
     record { l = decimal 116 0 ⊗ fy ⊖ decimal 16 0; a = decimal 500 0 ⊗ (fx ⊖ fy); b = decimal 200 0 ⊗ (fy ⊖ fz) }
 
--- a z below 0 is taken for 0
+-- CIELAB to XYZ; a z below 0 is taken for 0
 unfoldable pub xyzOfLab : Lab → List Float
 xyzOfLab c =
     let y = (c .l ⊕ decimal 16 0) ⊘ decimal 116 0 in
@@ -99,6 +103,7 @@ xyzOfLab c =
     let z0 = cond (lt z (decimal 0 0)) (decimal 0 0) z in
     labFInv x ⊗ getD white 0 nan ∷ labFInv y ⊗ getD white 1 nan ∷ labFInv z0 ⊗ getD white 2 nan ∷ []
 
+-- sRGB to CIELAB, and back
 unfoldable pub rgb8ToLab : Rgb8 → Lab
 rgb8ToLab c = labOfXyz (matVec xyzFromRgb (decodeOf (c .r) ∷ decodeOf (c .g) ∷ decodeOf (c .b) ∷ []))
 

@@ -1,4 +1,6 @@
 // Colours: CIELAB as three doubles, sRGB as three bytes, the ways between them, and the distance of two.
+pub mod channel;
+pub mod cielab;
 
 // A colour in CIELAB.
 pub struct Lab {

@@ -1,0 +1,8 @@
+pub mod Entries
+pub mod Tests
+pub mod Tables
+pub mod Patterns
+pub mod Thresholds
+pub mod Colours
+pub mod Range
+pub mod Curve
