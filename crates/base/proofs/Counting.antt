@@ -4,12 +4,12 @@ use mathlib.Core.Path.{_≡_, refl, sym, ap, _∙_, subst}
 use mathlib.Core.Logic.{_⊎_, inl, inr, ⊎-elim}
 use mathlib.Core.Bool.{Bool, true, false, not, _&&_, _||_, cond, true≢false, false≢true}
 use mathlib.Core.List.{List, [], _∷_}
-use native.Mathlib.Nat.{le-of-suc-le-suc, not-suc-le-zero, le-refl, le-trans, le-step, le-of-lt, lt-suc-self, add-zero, zero-add, add-suc, suc-add, le-suc-iff, min-le-left, min-le-right, min-eq-left, min-eq-right, le-max-left, le-max-right, max-eq-left, max-eq-right}
-use native.Mathlib.Decide.{decLe, ℕ-discrete}
+use native.Mathlib.Nat.{le-of-suc-le-suc, not-suc-le-zero, le-refl, le-trans, le-step, le-of-lt, lt-suc-self, add-zero, zero-add, add-suc, suc-add, min-le-left, min-le-right, min-eq-left, min-eq-right, le-max-left, le-max-right, max-eq-left, max-eq-right}
+use native.Mathlib.Decide.{ℕ-discrete}
 use native.Mathlib.Omega.{arith}
-use lib.Dec.{T, leb, ltb, eqb, leb→le, le→leb, ltb→lt, lt→ltb, eqb→eq, eqb-refl, nleb→lt, leb·zero}
+use lib.Dec.{T, leb, eqb, leb→le, le→leb, eqb→eq, eqb-refl, nleb→lt}
 use lib.ListN.{length, getD}
-use Rattle.base.specs.Places.{tableFrom, table, any, count, least, greatest, times}
+use Rattle.base.specs.Places.{tableFrom, table, any, count, least, greatest}
 
 -- ---- tests
 

@@ -1,6 +1,6 @@
 -- Refusals: rows of a number and a condition, in rising order, of which the first that applies is the answer. Definitions only. Assumes nothing.
 use Prim.Native.Nat.{ℕ}
-use mathlib.Core.Bool.{Bool, true, false, cond}
+use mathlib.Core.Bool.{Bool, cond}
 use mathlib.Core.List.{List, [], _∷_}
 use mathlib.Core.Option.{Option, none, some}
 use Rattle.base.specs.declared.Filling.{Filling}

@@ -1,8 +1,8 @@
 -- The two neighbourhoods of a grid work both ways round and hold no cell's self. Assumes nothing.
-use Prim.Native.Nat.{ℕ, suc, _/_, _%_, _+_}
-use mathlib.Core.Path.{_≡_, refl, sym, ap, _∙_}
+use Prim.Native.Nat.{ℕ, _/_, _%_, _+_}
+use mathlib.Core.Path.{_≡_, refl, sym}
 use mathlib.Core.Logic.{⊎-elim}
-use mathlib.Core.Bool.{Bool, true, false, not, _&&_, _||_}
+use mathlib.Core.Bool.{true, false, not, _&&_, _||_}
 use lib.Dec.{leb, eqb}
 use Rattle.rules.specs.Regions.{Symmetric}
 use Rattle.rules.specs.Grid.{close, eight, four}

@@ -2,15 +2,14 @@
 use Prim.Native.Nat.{ℕ, zero, suc, _≤_, _<_}
 use mathlib.Core.Path.{_≡_, refl, sym, ap, _∙_, subst}
 use mathlib.Core.Logic.{⊎-elim}
-use mathlib.Core.Bool.{Bool, true, false, _&&_, _||_, cond, false≢true}
+use mathlib.Core.Bool.{true, false, _||_, false≢true}
 use mathlib.Core.List.{List, [], _∷_}
 use native.Mathlib.Nat.{le-refl, le-trans, le-of-lt, lt-irrefl, lt-of-lt-of-le}
-use native.Mathlib.Omega.{arith}
 use lib.IntN.{ℤ, pos, negsuc}
 use lib.ListN.{length}
 use Rattle.base.proofs.Counting.{case, left, right, either, eqb-yes}
 use Rattle.rules.specs.Regions.{Symmetric}
-use Rattle.rules.specs.Pass.{Rule, State, smalls, fates, applied, pass, moves, fresh, Cleaned, clean}
+use Rattle.rules.specs.Pass.{Rule, State, smalls, fates, pass, moves, fresh, Cleaned, clean}
 use Rattle.rules.specs.Corners.{same}
 use Rattle.rules.specs.Claims.{sameCells, among, watched}
 use Rattle.rules.proofs.Passes.{pass-length, fewer-smalls}

@@ -1,10 +1,10 @@
 -- Labels number the regions 1 to n in the order of their first cells. Assumes nothing.
-use Prim.Native.Nat.{ℕ, zero, suc, _+_, _≤_, _<_, zero-le, suc-le-suc}
-use mathlib.Core.Path.{_≡_, refl, sym, ap, _∙_, subst}
-use mathlib.Core.Logic.{_⊎_, inl, inr, ⊎-elim, _↔_}
-use mathlib.Core.Bool.{Bool, true, false, cond}
+use Prim.Native.Nat.{ℕ, zero, suc, _+_, _≤_, _<_, zero-le}
+use mathlib.Core.Path.{_≡_, sym, ap, _∙_}
+use mathlib.Core.Logic.{_↔_}
+use mathlib.Core.Bool.{Bool, true, false}
 use mathlib.Core.List.{List}
-use native.Mathlib.Nat.{le-refl, le-trans, le-antisymm, le-step, le-of-suc-le-suc, not-suc-le-zero, lt-suc-self, lt-irrefl, lt-of-le-of-lt}
+use native.Mathlib.Nat.{le-refl, le-trans, le-step, not-suc-le-zero, lt-suc-self}
 use native.Mathlib.Decide.{ℕ-discrete}
 use native.Mathlib.Omega.{arith}
 use lib.IntN.{ℤ}
@@ -12,8 +12,8 @@ use lib.Dec.{leb, eqb}
 use lib.ListN.{length}
 use Rattle.base.specs.Places.{count}
 use Rattle.rules.specs.Regions.{at, opaque, Joined, held, roots, root, inside, first, label, Symmetric}
-use Rattle.base.proofs.Counting.{case, clash, leb-yes, no-leb, left, right, eqb-yes, count-some}
-use Rattle.rules.proofs.Roots.{opaque-below, root-below, join-root, root-join, root-first, first-root}
+use Rattle.base.proofs.Counting.{case, leb-yes, no-leb, left, right, eqb-yes, count-some}
+use Rattle.rules.proofs.Roots.{root-below, join-root, root-join, first-root}
 
 count-prefix : (a b : ℕ) (t : ℕ → Bool) → a ≤ b → count a t ≤ count b t
 unfolding count

@@ -1,25 +1,23 @@
 -- Further facts of passes that later work needs: opaque cells stay opaque, no sheet comes back, limits of one or less change nothing,
 -- one more pass after settling changes nothing, and what a first pass merges is a plan that passes. Assumes nothing.
-use Prim.Native.Nat.{ℕ, zero, suc, _+_, _≤_, _<_, zero-le, suc-le-suc}
-use mathlib.Core.Path.{_≡_, refl, sym, ap, ap₂, _∙_, subst}
-use mathlib.Core.Logic.{_⊎_, inl, inr, ⊎-elim, _↔_}
-use mathlib.Core.Bool.{Bool, true, false, not, _&&_, _||_, cond, true≢false, false≢true}
-use mathlib.Core.List.{List, [], _∷_}
+use Prim.Native.Nat.{ℕ, zero, suc, _≤_, _<_, suc-le-suc}
+use mathlib.Core.Path.{_≡_, refl, sym, ap, _∙_, subst}
+use mathlib.Core.Bool.{Bool, true, false, not, _&&_, false≢true}
+use mathlib.Core.List.{List}
 use mathlib.Core.Option.{Option, none, some}
-use native.Mathlib.Nat.{le-refl, le-trans, le-antisymm, le-of-suc-le-suc, not-suc-le-zero, lt-irrefl}
+use native.Mathlib.Nat.{le-trans, lt-irrefl}
 use native.Mathlib.Decide.{ℕ-discrete}
 use native.Mathlib.Omega.{arith}
 use lib.IntN.{ℤ, pos, negsuc}
 use lib.Signed.{nonNeg, ltZ}
-use lib.Dec.{leb, ltb, eqb}
 use lib.Ieee.{Float, lt}
-use lib.ListN.{length, getD}
-use Rattle.base.specs.Places.{table, any, count, greatest}
-use Rattle.rules.specs.Regions.{at, opaque, index, Joined, here, step, held, roots, root, inside, first, Symmetric}
-use Rattle.rules.specs.Pass.{Rule, State, View, marked, size, few, isSmall, isLarge, small, large, smalls, view, Verdict, stay, merge, freeze, voter, votes, most, top, frequent, choose, target, judged, pending, decided, verdict, painted, merges, freezes, fates, fate, applied, pass, repaints, moves, fresh, Cleaned, clean}
-use Rattle.base.proofs.Counting.{case, clash, both, left, right, not-true, not-false, same-test, leb-yes, yes-leb, eqb-yes, yes-eqb, table-at, any-yes, yes-any, any-no, count-some, count-yes, greatest-above, or-right}
-use Rattle.rules.proofs.Roots.{join-right, opaque-below, joined-root, root-below, join-inside, first-root}
-use Rattle.rules.proofs.Passes.{pass-length, frozen-length, large-opaque, small-opaque, small-few, fate-at, cell-at, frozen-at, repaints-at, repaints-below, repainted, repainted-large, unpainted-kept, fewer-smalls, still, same-cells, small-counted, merge-why, target-some, frequent-voter}
+use lib.ListN.{length}
+use Rattle.base.specs.Places.{table, any, greatest}
+use Rattle.rules.specs.Regions.{at, opaque, index, here, roots, root, inside, first, Symmetric}
+use Rattle.rules.specs.Pass.{Rule, State, View, marked, size, few, small, large, smalls, view, merge, freeze, voter, top, frequent, choose, target, judged, pending, decided, verdict, merges, freezes, fates, pass, repaints, moves, clean}
+use Rattle.base.proofs.Counting.{case, clash, both, left, right, not-true, not-false, leb-yes, any-yes, yes-any, count-some, greatest-above, or-right}
+use Rattle.rules.proofs.Roots.{opaque-below, join-inside}
+use Rattle.rules.proofs.Passes.{pass-length, frozen-length, large-opaque, small-opaque, small-few, fate-at, frozen-at, repaints-at, repainted, repainted-large, unpainted-kept, fewer-smalls, still, same-cells, merge-why, target-some, frequent-voter}
 use Rattle.rules.proofs.Runs.{clean-go, clean-stop, moves-yes, moves-no}
 
 module _ (rule : Rule) (symm : Symmetric (rule .adj)) where

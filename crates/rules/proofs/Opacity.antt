@@ -1,8 +1,7 @@
 -- What `run` does to opaque and transparent cells. Assumes nothing.
 use Prim.Native.Nat.{ℕ, _+_, _-_, _*_, _/_, _%_, _≤_, _<_}
 use mathlib.Core.Path.{_≡_, refl, sym, ap, _∙_, subst}
-use mathlib.Core.Logic.{_↔_}
-use mathlib.Core.Bool.{Bool, true, false, not, _&&_, _||_, cond, false≢true}
+use mathlib.Core.Bool.{Bool, true, false, not, _&&_, _||_, cond}
 use mathlib.Core.List.{List, [], _∷_}
 use native.Mathlib.Decide.{decLt}
 use native.Mathlib.Omega.{arith}
@@ -11,17 +10,17 @@ use lib.Signed.{nonNeg}
 use lib.Dec.{leb, ltb}
 use lib.ListN.{length, getD, List·getD-eq-default}
 use Rattle.base.specs.Places.{table, any}
-use Rattle.base.proofs.Counting.{case, clash, left, right, or-left, or-right, any-no, any-same, table-at, table-length}
+use Rattle.base.proofs.Counting.{case, left, or-left, or-right, any-no, any-same, table-at, table-length}
 use Rattle.rules.specs.declared.PostConfig.{PostConfig}
 use Rattle.rules.specs.declared.Outline.{Outline}
 use Rattle.rules.specs.Sheet.{Sheet, area}
 use Rattle.rules.specs.Palette.{Palette}
 use Rattle.rules.specs.Grid.{four}
 use Rattle.rules.specs.Regions.{at, opaque}
-use Rattle.rules.specs.Pass.{Rule, fresh, clean}
+use Rattle.rules.specs.Pass.{fresh}
 use Rattle.rules.specs.Corners.{same, Corner, corners, arms, around, goesOn, opposite, isCorner, trimmedBy, trimmed, trim}
-use Rattle.rules.specs.Outline.{onEdge, touches, asked, pads, paddedAt, padded, canvas, ring, hasRing, inked, Outlined, drawn, outline, Choice, chosenIndex, lineColour, choice}
-use Rattle.rules.specs.Run.{Limits, ruleOn, Tidied, tidy, tidyIf, limitsOf, toned, padAllowed, outlineIf, Ran, process}
+use Rattle.rules.specs.Outline.{onEdge, touches, asked, pads, paddedAt, padded, canvas, ring, hasRing, inked, drawn, outline, chosenIndex, lineColour, choice}
+use Rattle.rules.specs.Run.{Limits, ruleOn, tidy, tidyIf, limitsOf, toned, padAllowed, outlineIf, process}
 use Rattle.rules.specs.Claims.{KeepsOpaque}
 use Rattle.rules.proofs.Grids.{eight-symmetric}
 use Rattle.rules.proofs.More.{clean-opaque}

@@ -3,27 +3,27 @@
 -- B. a repainted cell is in a large region afterwards, and has the index that a large region had before;
 -- C. a small region afterwards was, as the same set of cells, a small region before, and was not repainted.
 -- Assumes nothing.
-use Prim.Native.Nat.{ℕ, zero, suc, _+_, _≤_, _<_, zero-le, suc-le-suc}
-use mathlib.Core.Path.{_≡_, refl, sym, ap, _∙_, subst}
+use Prim.Native.Nat.{ℕ, zero, suc, _≤_, _<_, suc-le-suc}
+use mathlib.Core.Path.{_≡_, refl, sym, ap, _∙_}
 use mathlib.Core.Logic.{_⊎_, inl, inr, ⊎-elim, _↔_}
-use mathlib.Core.Bool.{Bool, true, false, not, _&&_, _||_, cond, and-false, true≢false, false≢true}
-use mathlib.Core.List.{List, [], _∷_}
+use mathlib.Core.Bool.{Bool, true, false, not, _&&_, _||_, and-false, true≢false, false≢true}
+use mathlib.Core.List.{List}
 use mathlib.Core.Option.{Option, none, some}
-use native.Mathlib.Nat.{le-refl, le-trans, le-antisymm, le-step, le-of-suc-le-suc, not-suc-le-zero, lt-suc-self, lt-of-le-of-lt}
+use native.Mathlib.Nat.{le-trans, le-antisymm, le-step, le-of-suc-le-suc, not-suc-le-zero, lt-suc-self, lt-of-le-of-lt}
 use native.Mathlib.Decide.{ℕ-discrete}
 use native.Mathlib.Omega.{arith}
 use lib.IntN.{ℤ, pos, negsuc}
 use lib.Signed.{nonNeg, ltZ}
 use lib.Dec.{leb, ltb, eqb}
-use lib.Ieee.{Float, lt}
+use lib.Ieee.{lt}
 use lib.ListN.{length, getD, List·getD-eq-default}
 use lib.Seq.{ext-getD}
-use Rattle.base.specs.Places.{table, any, count, least, times}
-use Rattle.rules.specs.Regions.{at, opaque, index, alike, link, Joined, here, step, held, spread, roots, root, inside, first, Symmetric}
-use Rattle.rules.specs.Pass.{Rule, State, View, marked, size, few, isSmall, isLarge, small, large, smalls, view, Verdict, stay, merge, freeze, voter, votes, most, top, frequent, choose, target, judged, pending, decided, verdict, painted, merges, freezes, fates, fate, applied, pass, repaints, moves, Cleaned, clean}
+use Rattle.base.specs.Places.{table, any}
+use Rattle.rules.specs.Regions.{at, opaque, index, Joined, here, step, held, roots, root, inside, first, Symmetric}
+use Rattle.rules.specs.Pass.{Rule, State, View, marked, size, few, isSmall, isLarge, small, large, smalls, view, Verdict, stay, merge, freeze, voter, votes, most, top, frequent, choose, target, judged, pending, decided, verdict, painted, merges, freezes, fates, fate, applied, pass, repaints}
 use Rattle.rules.specs.Claims.{Apart, Frozen, Left, apart, frozen, barred}
-use Rattle.base.proofs.Counting.{case, clash, both, left, right, not-true, not-false, eqb-yes, yes-eqb, leb-yes, yes-leb, no-leb, table-at, table-length, any-yes, yes-any, any-no, count-le, count-mono, count-same, count-less, count-some, count-yes, greatest-above, greatest-at, either, or-left, or-right}
-use Rattle.rules.proofs.Roots.{same-opaque, to-link, join-left, join-right, join-same, join-trans, join-sym, opaque-below, joined-root, root-below, root-le, clear-root, join-root, root-join, root-first, root-root, inside-join, join-inside, lift-join}
+use Rattle.base.proofs.Counting.{case, clash, both, left, right, not-true, not-false, eqb-yes, yes-eqb, leb-yes, yes-leb, no-leb, table-at, table-length, any-yes, yes-any, any-no, count-mono, count-less, count-some, count-yes, greatest-above, greatest-at, either, or-left, or-right}
+use Rattle.rules.proofs.Roots.{to-link, join-left, join-right, join-same, join-trans, join-sym, opaque-below, joined-root, root-below, root-le, clear-root, join-root, root-first, root-root, inside-join, join-inside, lift-join}
 
 -- ---- verdicts
 

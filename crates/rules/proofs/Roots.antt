@@ -1,18 +1,18 @@
 -- `roots` is right: two opaque places have one root exactly when they are joined, and the root is the first place of the region.
 -- For any neighbourhood that works both ways round. Assumes nothing.
-use Prim.Native.Nat.{ℕ, zero, suc, _+_, _≤_, _<_, zero-le}
-use mathlib.Core.Path.{_≡_, refl, sym, ap, _∙_, subst}
+use Prim.Native.Nat.{ℕ, zero, suc, _≤_, _<_}
+use mathlib.Core.Path.{_≡_, refl, sym, ap, _∙_}
 use mathlib.Core.Logic.{_⊎_, inl, inr, ⊎-elim, _↔_}
-use mathlib.Core.Bool.{Bool, true, false, not, _&&_, _||_, cond, true≢false, false≢true}
-use mathlib.Core.List.{List, [], _∷_}
-use native.Mathlib.Nat.{le-refl, le-trans, le-antisymm, lt-suc-self}
+use mathlib.Core.Bool.{Bool, true, false, not, _&&_, false≢true}
+use mathlib.Core.List.{List}
+use native.Mathlib.Nat.{le-refl, le-trans, le-antisymm}
 use native.Mathlib.Omega.{arith}
 use lib.IntN.{ℤ, pos, negsuc}
 use lib.Signed.{nonNeg}
-use lib.Dec.{leb, ltb, eqb}
-use lib.ListN.{length, getD, List·getD-eq-default}
+use lib.Dec.{leb, eqb}
+use lib.ListN.{length, List·getD-eq-default}
 use Rattle.base.specs.Places.{table, any, count, least, times}
-use Rattle.rules.specs.Regions.{at, opaque, index, alike, link, Joined, here, step, held, spread, roots, root, inside, first, Symmetric}
+use Rattle.rules.specs.Regions.{at, opaque, alike, link, Joined, here, step, held, spread, roots, root, inside, first, Symmetric}
 use Rattle.base.proofs.Counting.{case, clash, both, left, right, not-true, not-false, eqb-yes, yes-eqb, leb-yes, yes-leb, no-leb, table-at, any-yes, any-no, count-le, count-less, count-some, least-start, least-below, least-is}
 
 -- ---- cells that are alike

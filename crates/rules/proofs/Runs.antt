@@ -1,24 +1,19 @@
 -- Runs of passes, for any neighbourhood that works both ways round. Assumes nothing.
-use Prim.Native.Nat.{ℕ, zero, suc, _+_, _≤_, _<_, zero-le, suc-le-suc}
-use mathlib.Core.Path.{_≡_, refl, sym, ap, _∙_, subst}
-use mathlib.Core.Logic.{_⊎_, inl, inr, ⊎-elim, _↔_}
-use mathlib.Core.Bool.{Bool, true, false, not, _&&_, _||_, cond, true≢false, false≢true}
-use mathlib.Core.List.{List, [], _∷_}
-use mathlib.Core.Option.{Option, none, some}
-use native.Mathlib.Nat.{le-refl, le-trans, le-antisymm, le-step, le-of-suc-le-suc, not-suc-le-zero, lt-suc-self, lt-of-le-of-lt, lt-of-lt-of-le}
+use Prim.Native.Nat.{ℕ, zero, suc, _+_, _≤_, _<_, zero-le}
+use mathlib.Core.Path.{_≡_, refl, sym, ap, _∙_}
+use mathlib.Core.Bool.{true, false, cond}
+use mathlib.Core.List.{List}
+use native.Mathlib.Nat.{le-refl, le-of-suc-le-suc, not-suc-le-zero}
 use native.Mathlib.Omega.{arith}
-use lib.IntN.{ℤ, pos, negsuc}
-use lib.Signed.{nonNeg, ltZ}
-use lib.Dec.{leb, ltb, eqb}
-use lib.ListN.{length, getD}
-use lib.Seq.{ext-getD}
-use Rattle.base.specs.Places.{table, any, count}
-use Rattle.rules.specs.Regions.{at, opaque, index, link, Joined, here, step, held, roots, root, inside, first, Symmetric}
-use Rattle.rules.specs.Pass.{Rule, State, View, marked, size, few, isSmall, isLarge, small, large, smalls, view, Verdict, stay, merge, freeze, voter, votes, most, top, frequent, choose, target, judged, pending, decided, verdict, painted, merges, freezes, fates, fate, applied, pass, repaints, moves, fresh, Cleaned, clean}
+use lib.IntN.{ℤ}
+use lib.ListN.{length}
+use Rattle.base.specs.Places.{count}
+use Rattle.rules.specs.Regions.{at, here, first, Symmetric}
+use Rattle.rules.specs.Pass.{Rule, State, marked, small, large, smalls, merges, fates, fate, pass, repaints, moves, fresh, clean}
 use Rattle.rules.specs.Claims.{repaintings, cleaned, Left, OneRun, TwoRuns}
-use Rattle.base.proofs.Counting.{case, clash, both, left, right, not-true, not-false, eqb-yes, yes-eqb, leb-yes, yes-leb, no-leb, table-at, table-length, any-yes, yes-any, any-no, count-le, count-mono, count-same, count-less, count-some, count-yes}
-use Rattle.rules.proofs.Roots.{join-left, join-right, join-same, join-trans, join-sym, opaque-below, joined-root, root-below, root-le, join-root, root-first, root-root}
-use Rattle.rules.proofs.Passes.{pass-length, large-kept, large-stays, Repainted, repainted, repainted-large, small-kept, small-was, small-region, join-large, join-small, small-or-large, not-both, unpainted-kept, repaints-below, join-repaints, repainted-small, large-source, fewer-smalls, frozen-length, still, same-cells, small-counted, Whole, whole-stays, left-why}
+use Rattle.base.proofs.Counting.{case, clash, table-at, table-length, any-yes, any-no}
+use Rattle.rules.proofs.Roots.{join-right, opaque-below}
+use Rattle.rules.proofs.Passes.{pass-length, large-kept, large-stays, repainted, repainted-large, not-both, repaints-below, repainted-small, large-source, fewer-smalls, frozen-length, still, small-counted, Whole, whole-stays, left-why}
 
 pub clean-go : (rule : Rule) (k : ℕ) (s : State) → moves rule (fates rule s) ≡ true → clean rule (suc k) s ≡ record { state = clean rule k (pass rule s) .state; count = suc (clean rule k (pass rule s) .count) }
 unfolding clean pass

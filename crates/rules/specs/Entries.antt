@@ -1,13 +1,13 @@
 -- The entries on sheets and palettes: for each its refusals, and what it answers and leaves in the lent lists. Definitions only. Assumes nothing.
 use Prim.Native.Nat.{ℕ, _*_}
-use mathlib.Core.Bool.{Bool, true, false, not, _&&_, _||_, cond}
+use mathlib.Core.Bool.{Bool, true, not, _||_}
 use mathlib.Core.List.{List, [], _∷_}
 use mathlib.Core.Option.{Option}
 use lib.Dec.{ltb}
 use lib.IntN.{ℤ}
 use lib.ListN.{length}
 use lib.Ieee.{Float}
-use Rattle.base.specs.Refusals.{Row, refusal, unless, filling}
+use Rattle.base.specs.Refusals.{refusal, unless, filling}
 use Rattle.base.specs.declared.Filling.{Filling}
 use Rattle.rules.specs.declared.Outline.{Outline}
 use Rattle.rules.specs.declared.PostConfig.{PostConfig}
@@ -22,8 +22,8 @@ use Rattle.rules.specs.declared.Processing.{Processing}
 use Rattle.rules.specs.Sheet.{Sheet, sheetOf, over, needed}
 use Rattle.rules.specs.Palette.{Palette, outOfRange, between, saturate}
 use Rattle.rules.specs.Corners.{trim}
-use Rattle.rules.specs.Outline.{asked, pads, canvas, Outlined, outline}
-use Rattle.rules.specs.Run.{Limits, Tidied, tidy, limitsOf, toned, padAllowed, Ran, process}
+use Rattle.rules.specs.Outline.{asked, pads, canvas, outline}
+use Rattle.rules.specs.Run.{Limits, tidy, toned, padAllowed, process}
 use Rattle.rules.specs.Rows.{tooLarge, tooShort, cramped, badPalette, badColour, badSetting, badDarkening, badIndex, noEntry}
 
 -- ---- `remove_orphans`

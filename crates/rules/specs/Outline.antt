@@ -1,11 +1,9 @@
 -- The outline: padding, the ring, its colour and the palette entry that carries it. Definitions only. Assumes nothing.
-use Prim.Native.Nat.{ℕ, suc, _+_, _-_, _*_, _/_, _%_}
+use Prim.Native.Nat.{ℕ, _+_, _-_, _*_, _/_, _%_}
 use mathlib.Core.Bool.{Bool, true, false, not, _&&_, _||_, cond}
-use mathlib.Core.List.{List}
-use mathlib.Core.Option.{Option, none, some}
+use mathlib.Core.Option.{none, some}
 use lib.Dec.{eqb, leb, ltb}
 use lib.IntN.{ℤ, pos, negsuc}
-use lib.ListN.{getD}
 use lib.Ieee.{Float}
 use Rattle.base.specs.Places.{table, any}
 use Rattle.color.specs.declared.Lab.{Lab}

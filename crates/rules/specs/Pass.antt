@@ -1,15 +1,15 @@
 -- One pass of cleaning, and cleaning: small regions take the index that most cells of large regions around them have.
 -- Definitions only. Assumes nothing.
-use Prim.Native.Nat.{ℕ, zero, suc, _+_, max}
+use Prim.Native.Nat.{ℕ, zero, suc}
 use mathlib.Core.Bool.{Bool, true, false, not, _&&_, _||_, cond}
-use mathlib.Core.List.{List, [], _∷_}
+use mathlib.Core.List.{List}
 use mathlib.Core.Option.{Option, none, some}
-use lib.Dec.{T, eqb, ltb}
-use lib.IntN.{ℤ, pos, negsuc}
+use lib.Dec.{eqb, ltb}
+use lib.IntN.{ℤ, pos}
 use lib.Signed.{ltZ}
 use lib.ListN.{getD}
 use lib.Ieee.{Float, lt}
-use Rattle.base.specs.Places.{tableFrom, table, any, count, greatest}
+use Rattle.base.specs.Places.{table, any, count, greatest}
 use Rattle.rules.specs.Regions.{at, opaque, index, roots, held, inside, first}
 
 -- what a pass goes by

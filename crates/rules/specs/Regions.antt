@@ -1,7 +1,7 @@
 -- Regions of a sheet: largest sets of opaque cells of one index, joined by steps to neighbours.
 -- A sheet is a list of n cells, at the places 0 .. n - 1; `adj p q` says that q neighbours p.
 -- Definitions only. Assumes nothing.
-use Prim.Native.Nat.{ℕ, zero, suc}
+use Prim.Native.Nat.{ℕ, suc}
 use mathlib.Core.Bool.{Bool, true, false, _&&_, cond}
 use mathlib.Core.List.{List}
 use mathlib.Core.Path.{_≡_}
@@ -9,7 +9,7 @@ use lib.Dec.{eqb}
 use lib.IntN.{ℤ, pos, negsuc}
 use lib.Signed.{nonNeg}
 use lib.ListN.{getD}
-use Rattle.base.specs.Places.{tableFrom, table, count, least, times}
+use Rattle.base.specs.Places.{table, count, least, times}
 
 -- the cell at a place; off the sheet it is transparent
 unfoldable pub at : List ℤ → ℕ → ℤ

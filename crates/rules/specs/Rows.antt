@@ -1,12 +1,10 @@
 -- The rows of refusals, each with its condition, as the entries on sheets, palettes and masks share them. Definitions only. Assumes nothing.
 use Prim.Native.Nat.{ℕ, _*_}
-use mathlib.Core.Bool.{Bool, true, false, not, _&&_, _||_, cond}
-use mathlib.Core.List.{List}
+use mathlib.Core.Bool.{Bool, true, false, not, _&&_, _||_}
 use lib.Dec.{eqb, ltb}
 use lib.IntN.{ℤ, pos}
 use lib.Signed.{leZ}
 use lib.ListN.{length}
-use lib.Ieee.{Float}
 use Rattle.base.specs.Places.{any}
 use Rattle.base.specs.Refusals.{Row, row}
 use Rattle.rules.specs.declared.Outline.{Outline}

@@ -2,7 +2,6 @@
 use Prim.Native.Nat.{ℕ}
 use mathlib.Core.Bool.{Bool, true, false, not, _&&_, _||_, cond}
 use lib.IntN.{ℤ, pos}
-use lib.Dec.{eqb}
 use lib.Ieee.{Float}
 use Rattle.color.specs.Lab.{distance}
 use Rattle.rules.specs.declared.PostConfig.{PostConfig}
@@ -13,7 +12,7 @@ use Rattle.rules.specs.Grid.{eight}
 use Rattle.rules.specs.Pass.{Rule, fresh, clean}
 use Rattle.rules.specs.Palette.{Palette, colour, saturate}
 use Rattle.rules.specs.Corners.{trim}
-use Rattle.rules.specs.Outline.{asked, pads, canvas, Outlined, outline}
+use Rattle.rules.specs.Outline.{asked, Outlined, outline}
 use Rattle.rules.specs.Corners.{same}
 
 -- ---- cleaning a sheet
