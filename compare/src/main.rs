@@ -1,0 +1,34 @@
+//! The port beside the Rust original.
+//!
+//!     compare check [COUNT]          every comparison; COUNT random calls of each entry
+//!     compare bench                  times of the port and of the Rust, in one process
+//!     compare vectors FOLDER         writes the stored answers
+//!     compare cases ENTRY COUNT SEED prints random cases with the reference's answers
+
+mod call;
+mod cases;
+mod judge;
+mod lend;
+mod port;
+#[cfg(feature = "stand-in")]
+mod stand_in;
+mod vectors;
+
+use call::ENTRIES;
+
+fn main() {
+    let args: Vec<String> = std::env::args().skip(1).collect();
+    let words: Vec<&str> = args.iter().map(String::as_str).collect();
+    let number = |text: &str| text.parse::<u64>().expect("a number");
+    match words.as_slice() {
+        ["vectors", folder] => vectors::write_all(folder),
+        ["cases", entry, count, seed] => {
+            let entry = ENTRIES.iter().find(|e| e.1 == *entry).expect("an entry").0;
+            vectors::print(entry, number(count) as usize, number(seed));
+        }
+        _ => {
+            eprintln!("usage: compare check [COUNT] | bench | vectors FOLDER | cases ENTRY COUNT SEED");
+            std::process::exit(2);
+        }
+    }
+}
