@@ -12,9 +12,9 @@ import os
 import re
 import sys
 
-import tables
-
 HERE = os.path.dirname(os.path.abspath(__file__))
+sys.path.insert(0, os.path.join(HERE, "../tools"))
+import tables  # noqa: E402
 
 
 def replaced(text, old, new, times=1):
