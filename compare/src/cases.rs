@@ -59,42 +59,48 @@ fn specks(rng: &mut Rng, cells: &mut [i32], share: usize, k: usize) {
     }
 }
 
-/// One line of index `a` across the sheet in the four directions of a staircase.
+/// A line of index `a` with one staircase corner somewhere on the sheet, in one of four directions;
+/// now and then it goes on for another step.
 fn staircase(rng: &mut Rng, cells: &mut [i32], h: usize, w: usize, a: i32) {
     let (mut y, mut x) = (rng.below(h) as i32, rng.below(w) as i32);
-    let (dy, dx) = (rng.pick(&[-1, 1]), rng.pick(&[-1, 1]));
-    let straight = rng.pick(&[2, 3, 4]);
-    while y >= 0 && x >= 0 && y < h as i32 && x < w as i32 {
-        cells[y as usize * w + x as usize] = a;
-        match rng.below(straight) {
-            0 => {
-                // a corner: along, down, then on along the diagonal
-                x += dx;
-                if x >= 0 && x < w as i32 {
-                    cells[y as usize * w + x as usize] = a;
-                }
-                y += dy;
-            }
-            _ => {
-                x += dx;
-                y += dy;
-            }
+    let (sy, sx) = (rng.pick(&[-1, 1]), rng.pick(&[-1, 1]));
+    if h >= 4 && w >= 4 && !rng.once_in(6) {
+        // the whole pattern on the sheet
+        y = rng.below(h - 3) as i32 + if sy > 0 { 1 } else { 2 };
+        x = rng.below(w - 3) as i32 + if sx > 0 { 1 } else { 2 };
+    }
+    let mut line = vec![(0, 0), (0, sx), (sy, 0), (-sy, 2 * sx), (2 * sy, -sx)];
+    if rng.once_in(2) {
+        line.extend([(-2 * sy, 3 * sx), (3 * sy, -2 * sx)]);
+    }
+    for (dy, dx) in line {
+        let (v, u) = (y + dy, x + dx);
+        if v >= 0 && u >= 0 && v < h as i32 && u < w as i32 {
+            cells[v as usize * w + u as usize] = a;
         }
     }
 }
 
 /// A sheet of h x w cells over `k` indices, in one of several manners.
 pub fn sheet(rng: &mut Rng, h: usize, w: usize, k: usize) -> Vec<i32> {
+    let manner = rng.below(10);
+    sheet_in(rng, h, w, k, manner)
+}
+
+const STAIRS: usize = 3;
+
+fn sheet_in(rng: &mut Rng, h: usize, w: usize, k: usize, manner: usize) -> Vec<i32> {
     let n = h * w;
     let mut cells = vec![-1; n];
     if k == 0 || n == 0 {
         return cells;
     }
-    match rng.below(6) {
+    match manner {
         0 => specks(rng, &mut cells, 1, k),
-        1 => {
+        1 | 7 => {
             cells.fill(rng.below(k) as i32);
-            specks(rng, &mut cells, 4, k);
+            let share = rng.pick(&[2, 3, 4, 6]);
+            specks(rng, &mut cells, share, k);
         }
         2 => {
             let (step, down) = (1 + rng.below(4), rng.once_in(2));
@@ -104,13 +110,15 @@ pub fn sheet(rng: &mut Rng, h: usize, w: usize, k: usize) -> Vec<i32> {
             }
             specks(rng, &mut cells, 5, k);
         }
-        3 => {
+        STAIRS | 6 => {
             cells.fill(rng.below(k) as i32);
-            for _ in 0..1 + rng.below(2) {
+            for _ in 0..rng.pick(&[1, 1, 1, 2]) {
                 let a = rng.below(k) as i32;
                 staircase(rng, &mut cells, h, w, a);
             }
-            specks(rng, &mut cells, 40, k);
+            if rng.once_in(3) {
+                specks(rng, &mut cells, 30, k);
+            }
         }
         4 => {
             let (top, left) = (rng.below(h), rng.below(w));
@@ -121,6 +129,18 @@ pub fn sheet(rng: &mut Rng, h: usize, w: usize, k: usize) -> Vec<i32> {
                 }
             }
             specks(rng, &mut cells, 12, k);
+        }
+        8 | 9 if k >= 3 => {
+            // lines of other indices beside a larger area: they go one after another
+            let (cut, down, k) = (1 + rng.below(3), rng.once_in(2), k as i32);
+            for (p, cell) in cells.iter_mut().enumerate() {
+                let (along, across) = if down { (p / w, p % w) } else { (p % w, p / w) };
+                let tile = if k >= 5 { 2 * (across as i32 % 2) } else { 0 };
+                *cell = if along < cut { 0 } else { 1 + (along as i32 % 2 + tile) % (k - 1) };
+            }
+            if rng.once_in(3) {
+                specks(rng, &mut cells, 10, k as usize);
+            }
         }
         _ => {
             // two indices far more often than the others: large regions and single cells
@@ -168,6 +188,12 @@ pub fn colour(rng: &mut Rng) -> [f64; 3] {
         }
         _ => [rng.between(0.0, 100.0), rng.between(-60.0, 60.0), rng.between(-60.0, 60.0)],
     }
+}
+
+/// k colours that lie near one another, often equally far.
+fn near_colours(rng: &mut Rng, k: usize) -> Vec<f64> {
+    let reach = rng.pick(&[3, 7, 13]);
+    (0..3 * k).map(|_| rng.below(reach) as f64).collect()
 }
 
 /// k colours; now and then entries that lie equally far from one another.
@@ -257,12 +283,12 @@ fn reals(len: usize) -> Arg {
 }
 
 fn region_limit(rng: &mut Rng) -> i32 {
-    rng.pick(&[i32::MIN, -1, 0, 1, 2, 2, 2, 3, 3, 4, 5, 6, 9, 20, i32::MAX])
+    rng.pick(&[i32::MIN, -1, 0, 1, 2, 2, 2, 2, 2, 3, 3, 3, 3, 4, 4, 5, 6, 9, 20, i32::MAX])
 }
 
 fn colour_limit(rng: &mut Rng) -> f64 {
     let some = rng.between(0.0, 60.0);
-    rng.pick(&[0.0, -0.0, 5e-324, 5.0, 10.0, 25.0, 25.0, 25.0, 60.0, 1024.0, some])
+    rng.pick(&[0.0, -0.0, 5e-324, 5.0, 5.0, 10.0, 10.0, 25.0, 25.0, 25.0, 25.0, 60.0, 1024.0, some])
 }
 
 fn darkening(rng: &mut Rng) -> f64 {
@@ -281,6 +307,14 @@ fn mask(rng: &mut Rng, len: usize) -> Arg {
     Arg::Bytes((0..len).map(|_| set(rng)).collect())
 }
 
+/// The limits of cleaning, and a sheet and palette on which it has something to do.
+fn lively(rng: &mut Rng, h: usize, w: usize) -> (i32, f64, Vec<i32>, Vec<f64>) {
+    let k = rng.pick(&[2, 3, 3, 4, 5]);
+    let manner = rng.pick(&[1, 5, 7, 8, 8, 8]);
+    let (limit, delta) = (rng.pick(&[2, 2, 3, 4, 5]), rng.pick(&[4.0, 8.0, 25.0, 25.0]));
+    (limit, delta, sheet_in(rng, h, w, k, manner), near_colours(rng, k))
+}
+
 /// The cells and palette of a random call; cells beyond the palette only where `beyond`.
 fn material(rng: &mut Rng, h: usize, w: usize, beyond: bool) -> (Vec<i32>, Vec<f64>) {
     let k = if rng.once_in(25) { 0 } else { count(rng) };
@@ -292,7 +326,8 @@ fn material(rng: &mut Rng, h: usize, w: usize, beyond: bool) -> (Vec<i32>, Vec<f
             }
         }
     }
-    (cells, colours(rng, k))
+    let palette = if rng.below(5) < 2 { colours(rng, k) } else { near_colours(rng, k) };
+    (cells, palette)
 }
 
 fn outline_args(rng: &mut Rng, kinds: &[u64], palette: &[f64]) -> Vec<Arg> {
@@ -328,19 +363,24 @@ pub fn random_sized(rng: &mut Rng, entry: Entry, h: usize, w: usize) -> Call {
             vec![mask(rng, len), num(h), num(w), Arg::Num(k), Arg::Bytes(vec![SPARE_BYTE; slack(rng, n)]), work(slack(rng, 8 * n))]
         }
         Entry::RemoveOrphans => {
-            let limit = region_limit(rng);
-            let (cells, palette) = material(rng, h, w, limit <= 1);
+            let (mut limit, mut delta) = (region_limit(rng), colour_limit(rng));
+            let (mut cells, mut palette) = material(rng, h, w, limit <= 1);
+            if rng.once_in(2) {
+                (limit, delta, cells, palette) = lively(rng, h, w);
+            }
             let passes = rng.pick(&[0, 1, 1, 2, 3, 5, 5, 5, 100, 65_535]);
             vec![
                 lent_cells(cells, slack(rng, n)), num(h), num(w),
                 Arg::Reals(lent_palette(&palette)), num(palette.len() / 3),
-                signed(limit), Arg::Num(passes), real(colour_limit(rng)),
+                signed(limit), Arg::Num(passes), real(delta),
                 work(slack(rng, 8 * n)), words(slack(rng, 1)),
             ]
         }
         Entry::FixJaggies => {
-            let k = count(rng);
-            let cells = sheet(rng, h, w, k);
+            let k = 2 + rng.below(2);
+            let other = rng.below(10);
+            let manner = rng.pick(&[STAIRS, STAIRS, other]);
+            let cells = sheet_in(rng, h, w, k, manner);
             vec![lent_cells(cells, slack(rng, n)), num(h), num(w), work(slack(rng, 8 * n))]
         }
         Entry::AddOutline => {
@@ -360,14 +400,19 @@ pub fn random_sized(rng: &mut Rng, entry: Entry, h: usize, w: usize) -> Call {
             vec![Arg::Reals(lent_palette(&palette)), num(k), real(factor(rng))]
         }
         Entry::Run => {
-            let (limit, orphans) = (region_limit(rng), rng.below(4) != 0);
-            let (cells, palette) = material(rng, h, w, limit <= 1 || !orphans);
+            let (mut limit, mut delta) = (region_limit(rng), colour_limit(rng));
+            let mut orphans = rng.below(4) != 0;
+            let (mut cells, mut palette) = material(rng, h, w, limit <= 1 || !orphans);
+            if rng.once_in(2) {
+                orphans = true;
+                (limit, delta, cells, palette) = lively(rng, h, w);
+            }
             let needed = if rng.once_in(20) { n } else { padded_len(h, w) };
             let mut args = vec![
                 lent_cells(cells, slack(rng, needed)), num(h), num(w),
                 Arg::Reals(lent_palette(&palette)), num(palette.len() / 3),
                 real(factor(rng)), num(usize::from(orphans)), signed(limit),
-                real(colour_limit(rng)), flag(rng),
+                real(delta), flag(rng),
             ];
             args.extend(outline_args(rng, &[0, 1, 1, 2], &palette));
             let margin = rng.pick(&[0, 0, 0, 1, -1, i32::MAX, i32::MIN]);
@@ -414,7 +459,10 @@ pub fn random_sized(rng: &mut Rng, entry: Entry, h: usize, w: usize) -> Call {
 }
 
 pub fn random(rng: &mut Rng, entry: Entry) -> Call {
-    let (h, w) = (side(rng), side(rng));
+    let (mut h, mut w) = (side(rng), side(rng));
+    if matches!(entry, Entry::FixJaggies | Entry::Run | Entry::RemoveOrphans) && rng.once_in(2) {
+        (h, w) = (4 + rng.below(4), 4 + rng.below(4)); // room for corners and regions
+    }
     random_sized(rng, entry, h, w)
 }
 
@@ -505,9 +553,7 @@ pub fn named(entry: Entry) -> Vec<Call> {
                 outline_call(&[0], 1, 1, &q, 1, 0.0, [0; 3], false, true),
                 outline_call(&[0, -1], 1, 2, &[], 2, 0.0, [1, 2, 3], false, false),
                 outline_call(&spot, 3, 3, &full, 1, 0.5, [0; 3], true, false),
-                outline_call(&spot, 3, 3, &full, 2, 0.5, [255, 0, 0], true, false),
                 outline_call(&spot, 3, 3, &full[3..], 1, 0.5, [0; 3], true, false),
-                outline_call(&spot, 3, 3, &full, 1, 0.5, [0; 3], true, true),
             ]
         }
         Entry::ApplySaturation => {
@@ -516,6 +562,21 @@ pub fn named(entry: Entry) -> Vec<Call> {
         }
         _ => Vec::new(),
     }
+}
+
+/// Outlines over palettes of 254 to 256 entries: appended, overwritten, found, nearest.
+pub fn full_palettes(rng: &mut Rng, times: usize) -> Vec<Call> {
+    let one = |_| {
+        let k = rng.pick(&[254, 255, 256, 256, 256]);
+        let palette = colours(rng, k);
+        let (h, w) = (1 + rng.below(4), 1 + rng.below(4));
+        let cells = sheet(rng, h, w, 256);
+        let rgb = [rng.next() as u8, rng.next() as u8, rng.next() as u8];
+        let (kind, darken) = (rng.pick(&[1, 2]), darkening(rng));
+        let (pad, fixed) = (rng.once_in(2), rng.once_in(3));
+        outline_call(&cells, h, w, &palette, kind, darken, rgb, pad, fixed)
+    };
+    (0..times).map(one).collect()
 }
 
 // ---------------------------------------------------------------------------------- damage

@@ -5,8 +5,10 @@
 //!     compare vectors FOLDER         writes the stored answers
 //!     compare cases ENTRY COUNT SEED prints random cases with the reference's answers
 
+mod bench;
 mod call;
 mod cases;
+mod check;
 mod judge;
 mod lend;
 mod port;
@@ -21,6 +23,9 @@ fn main() {
     let words: Vec<&str> = args.iter().map(String::as_str).collect();
     let number = |text: &str| text.parse::<u64>().expect("a number");
     match words.as_slice() {
+        ["check"] => std::process::exit(check::all(20_000).min(1) as i32),
+        ["check", count] => std::process::exit(check::all(number(count) as usize).min(1) as i32),
+        ["bench"] => bench::all(),
         ["vectors", folder] => vectors::write_all(folder),
         ["cases", entry, count, seed] => {
             let entry = ENTRIES.iter().find(|e| e.1 == *entry).expect("an entry").0;

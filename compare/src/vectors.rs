@@ -57,6 +57,7 @@ fn stored(entry: Entry) -> Vec<Call> {
     let rng = &mut Rng(entry as u64);
     let more = match entry {
         Entry::Run | Entry::AddOutline | Entry::RemoveOrphans => 150,
+        Entry::ApplySaturation => 200,
         _ => 250,
     };
     calls.extend((0..more).map(|_| random(rng, entry)));
