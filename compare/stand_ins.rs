@@ -74,4 +74,3 @@ pub fn nearest_cbrt(t: f64) -> f64 {
 pub fn cube(t: f64) -> f64 {
     t * t * t
 }
-

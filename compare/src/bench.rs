@@ -131,15 +131,41 @@ fn sheet_calls(cells: &[i32], side: usize, palette: &[f64]) -> Vec<Call> {
     vec![
         call(Entry::LabelRegions, vec![vec![lent(n)], dims.to_vec(), vec![words(n), work(n), words(1)]]),
         call(Entry::Label4, vec![vec![set()], dims.to_vec(), vec![words(n), work(n), words(1)]]),
-        call(Entry::BinaryDilation8, vec![vec![set()], dims.to_vec(), vec![num(3), Arg::Bytes(vec![0; n]), work(n)]]),
-        call(Entry::RemoveOrphans, vec![vec![lent(n)], dims.to_vec(), colours().to_vec(), vec![signed(REGION), num(5), real(DELTA), work(n), words(1)]]),
+        call(
+            Entry::BinaryDilation8,
+            vec![vec![set()], dims.to_vec(), vec![num(3), Arg::Bytes(vec![0; n]), work(n)]],
+        ),
+        call(
+            Entry::RemoveOrphans,
+            vec![
+                vec![lent(n)],
+                dims.to_vec(),
+                colours().to_vec(),
+                vec![signed(REGION), num(5), real(DELTA), work(n), words(1)],
+            ],
+        ),
         call(Entry::FixJaggies, vec![vec![lent(n)], dims.to_vec(), vec![work(n)]]),
-        call(Entry::AddOutline, vec![vec![lent(needed)], dims.to_vec(), colours().to_vec(), line.to_vec(), vec![num(1), num(0), work(needed), words(5)]]),
-        call(Entry::Run, vec![
-            vec![lent(needed)], dims.to_vec(), colours().to_vec(),
-            vec![real(1.1), num(1), signed(REGION), real(DELTA), num(1)], line.to_vec(),
-            vec![num(0), num(0), num(0), num(0), work(needed), words(7)],
-        ]),
+        call(
+            Entry::AddOutline,
+            vec![
+                vec![lent(needed)],
+                dims.to_vec(),
+                colours().to_vec(),
+                line.to_vec(),
+                vec![num(1), num(0), work(needed), words(5)],
+            ],
+        ),
+        call(
+            Entry::Run,
+            vec![
+                vec![lent(needed)],
+                dims.to_vec(),
+                colours().to_vec(),
+                vec![real(1.1), num(1), signed(REGION), real(DELTA), num(1)],
+                line.to_vec(),
+                vec![num(0), num(0), num(0), num(0), work(needed), words(7)],
+            ],
+        ),
     ]
 }
 
@@ -156,29 +182,41 @@ fn rust_sheet_time(entry: Entry, cells: &[i32], side: usize, palette: &[f64]) ->
         outline_darken: 0.4,
         tileset: false,
     };
-    least(|| (), || match entry {
-        Entry::LabelRegions => {
-            black_box(postprocess::label_regions(&wide, side, side));
-        }
-        Entry::Label4 => {
-            black_box(mask::label4(&set, side, side));
-        }
-        Entry::BinaryDilation8 => {
-            black_box(mask::binary_dilation8(&set, side, side, 3));
-        }
-        Entry::RemoveOrphans => {
-            black_box(postprocess::remove_orphans(&wide, side, side, palette, i64::from(REGION), 5, DELTA));
-        }
-        Entry::FixJaggies => {
-            black_box(postprocess::fix_jaggies(&wide, side, side));
-        }
-        Entry::AddOutline => {
-            black_box(postprocess::add_outline(&wide, side, side, palette, "auto", 0.4, true, false)).unwrap();
-        }
-        _ => {
-            black_box(postprocess::run(&wide, side, side, palette, &config, false, false, 0)).unwrap();
-        }
-    })
+    least(
+        || (),
+        || match entry {
+            Entry::LabelRegions => {
+                black_box(postprocess::label_regions(&wide, side, side));
+            }
+            Entry::Label4 => {
+                black_box(mask::label4(&set, side, side));
+            }
+            Entry::BinaryDilation8 => {
+                black_box(mask::binary_dilation8(&set, side, side, 3));
+            }
+            Entry::RemoveOrphans => {
+                black_box(postprocess::remove_orphans(
+                    &wide,
+                    side,
+                    side,
+                    palette,
+                    i64::from(REGION),
+                    5,
+                    DELTA,
+                ));
+            }
+            Entry::FixJaggies => {
+                black_box(postprocess::fix_jaggies(&wide, side, side));
+            }
+            Entry::AddOutline => {
+                black_box(postprocess::add_outline(&wide, side, side, palette, "auto", 0.4, true, false))
+                    .unwrap();
+            }
+            _ => {
+                black_box(postprocess::run(&wide, side, side, palette, &config, false, false, 0)).unwrap();
+            }
+        },
+    )
 }
 
 fn colour_times() {
@@ -197,23 +235,53 @@ fn colour_times() {
     time(Entry::Rgb8ToLab, vec![Arg::Bytes(rgb.clone()), reals(3 * n)], n, "65536 colours", &|| {
         black_box(color::rgb8_to_lab(&rgb));
     });
-    time(Entry::LabToRgb8, vec![Arg::Reals(lab.clone()), Arg::Bytes(vec![0; 3 * n])], n, "65536 colours", &|| {
-        black_box(color::lab_to_rgb8(&lab));
-    });
-    time(Entry::DeltaE, vec![Arg::Reals(lab.clone()), Arg::Reals(other.clone()), reals(n)], n, "65536 pairs", &|| {
-        black_box(color::delta_e(&lab, &other));
-    });
-    time(Entry::NearestIndex, vec![Arg::Reals(pixels.clone()), Arg::Reals(palette.clone()), Arg::Cells(vec![0; 4096])], 4096, "4096 pixels, 256", &|| {
-        black_box(color::nearest_index(&pixels, &palette));
-    });
-    time(Entry::PaletteDistanceMatrix, vec![Arg::Reals(palette.clone()), reals(65_536)], 65_536, "256 colours", &|| {
-        black_box(color::palette_distance_matrix(&palette));
-    });
-    time(Entry::ApplySaturation, vec![Arg::Reals(palette.clone()), num(256), real(1.0)], 256, "256 colours", &|| {
-        let mut palette = palette.clone();
-        postprocess::apply_saturation(&mut palette, 1.0);
-        black_box(palette);
-    });
+    time(
+        Entry::LabToRgb8,
+        vec![Arg::Reals(lab.clone()), Arg::Bytes(vec![0; 3 * n])],
+        n,
+        "65536 colours",
+        &|| {
+            black_box(color::lab_to_rgb8(&lab));
+        },
+    );
+    time(
+        Entry::DeltaE,
+        vec![Arg::Reals(lab.clone()), Arg::Reals(other.clone()), reals(n)],
+        n,
+        "65536 pairs",
+        &|| {
+            black_box(color::delta_e(&lab, &other));
+        },
+    );
+    time(
+        Entry::NearestIndex,
+        vec![Arg::Reals(pixels.clone()), Arg::Reals(palette.clone()), Arg::Cells(vec![0; 4096])],
+        4096,
+        "4096 pixels, 256",
+        &|| {
+            black_box(color::nearest_index(&pixels, &palette));
+        },
+    );
+    time(
+        Entry::PaletteDistanceMatrix,
+        vec![Arg::Reals(palette.clone()), reals(65_536)],
+        65_536,
+        "256 colours",
+        &|| {
+            black_box(color::palette_distance_matrix(&palette));
+        },
+    );
+    time(
+        Entry::ApplySaturation,
+        vec![Arg::Reals(palette.clone()), num(256), real(1.0)],
+        256,
+        "256 colours",
+        &|| {
+            let mut palette = palette.clone();
+            postprocess::apply_saturation(&mut palette, 1.0);
+            black_box(palette);
+        },
+    );
     time(Entry::HexToRgb8, vec![Arg::Bytes(b"#12aBcd".to_vec()), Arg::Bytes(vec![0; 3])], 1, "one", &|| {
         black_box(color::hex_to_rgb8(black_box("#12aBcd"))).unwrap();
     });
@@ -223,7 +291,8 @@ pub fn all() {
     println!("{:24} {:22} {:>9} {:>9} {:>6}", "ns a cell (or colour)", "", "port", "Rust", "ratio");
     colour_times();
     // Eight colours, near enough to one another that most specks go.
-    let palette: Vec<f64> = (0..8).flat_map(|i| [20.0 + 5.0 * f64::from(i), f64::from(i * 3 % 8), 2.0]).collect();
+    let palette: Vec<f64> =
+        (0..8).flat_map(|i| [20.0 + 5.0 * f64::from(i), f64::from(i * 3 % 8), 2.0]).collect();
     for side in [64, 128, 256, 512] {
         for kind in SHEETS {
             let cells = sheet(kind, side);

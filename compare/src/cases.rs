@@ -351,16 +351,37 @@ pub fn random_sized(rng: &mut Rng, entry: Entry, h: usize, w: usize) -> Call {
         Entry::LabelRegions => {
             let k = count(rng);
             let cells = sheet(rng, h, w, k);
-            vec![lent_cells(cells, slack(rng, n)), num(h), num(w), words(slack(rng, n)), work(slack(rng, 8 * n)), words(slack(rng, 1))]
+            vec![
+                lent_cells(cells, slack(rng, n)),
+                num(h),
+                num(w),
+                words(slack(rng, n)),
+                work(slack(rng, 8 * n)),
+                words(slack(rng, 1)),
+            ]
         }
         Entry::Label4 => {
             let len = slack(rng, n);
-            vec![mask(rng, len), num(h), num(w), words(slack(rng, n)), work(slack(rng, 8 * n)), words(slack(rng, 1))]
+            vec![
+                mask(rng, len),
+                num(h),
+                num(w),
+                words(slack(rng, n)),
+                work(slack(rng, 8 * n)),
+                words(slack(rng, 1)),
+            ]
         }
         Entry::BinaryDilation8 => {
             let len = slack(rng, n);
             let k = rng.pick(&[0, 1, 1, 2, 3, 4, 7, 512, 65_535]);
-            vec![mask(rng, len), num(h), num(w), Arg::Num(k), Arg::Bytes(vec![SPARE_BYTE; slack(rng, n)]), work(slack(rng, 8 * n))]
+            vec![
+                mask(rng, len),
+                num(h),
+                num(w),
+                Arg::Num(k),
+                Arg::Bytes(vec![SPARE_BYTE; slack(rng, n)]),
+                work(slack(rng, 8 * n)),
+            ]
         }
         Entry::RemoveOrphans => {
             let (mut limit, mut delta) = (region_limit(rng), colour_limit(rng));
@@ -370,10 +391,16 @@ pub fn random_sized(rng: &mut Rng, entry: Entry, h: usize, w: usize) -> Call {
             }
             let passes = rng.pick(&[0, 1, 1, 2, 3, 5, 5, 5, 100, 65_535]);
             vec![
-                lent_cells(cells, slack(rng, n)), num(h), num(w),
-                Arg::Reals(lent_palette(&palette)), num(palette.len() / 3),
-                signed(limit), Arg::Num(passes), real(delta),
-                work(slack(rng, 8 * n)), words(slack(rng, 1)),
+                lent_cells(cells, slack(rng, n)),
+                num(h),
+                num(w),
+                Arg::Reals(lent_palette(&palette)),
+                num(palette.len() / 3),
+                signed(limit),
+                Arg::Num(passes),
+                real(delta),
+                work(slack(rng, 8 * n)),
+                words(slack(rng, 1)),
             ]
         }
         Entry::FixJaggies => {
@@ -387,8 +414,11 @@ pub fn random_sized(rng: &mut Rng, entry: Entry, h: usize, w: usize) -> Call {
             let (cells, palette) = material(rng, h, w, true);
             let needed = if rng.once_in(20) { n } else { padded_len(h, w) };
             let mut args = vec![
-                lent_cells(cells, slack(rng, needed)), num(h), num(w),
-                Arg::Reals(lent_palette(&palette)), num(palette.len() / 3),
+                lent_cells(cells, slack(rng, needed)),
+                num(h),
+                num(w),
+                Arg::Reals(lent_palette(&palette)),
+                num(palette.len() / 3),
             ];
             args.extend(outline_args(rng, &[1, 1, 2], &palette));
             args.extend([flag(rng), flag(rng), work(slack(rng, 8 * needed)), words(slack(rng, 5))]);
@@ -409,15 +439,28 @@ pub fn random_sized(rng: &mut Rng, entry: Entry, h: usize, w: usize) -> Call {
             }
             let needed = if rng.once_in(20) { n } else { padded_len(h, w) };
             let mut args = vec![
-                lent_cells(cells, slack(rng, needed)), num(h), num(w),
-                Arg::Reals(lent_palette(&palette)), num(palette.len() / 3),
-                real(factor(rng)), num(usize::from(orphans)), signed(limit),
-                real(delta), flag(rng),
+                lent_cells(cells, slack(rng, needed)),
+                num(h),
+                num(w),
+                Arg::Reals(lent_palette(&palette)),
+                num(palette.len() / 3),
+                real(factor(rng)),
+                num(usize::from(orphans)),
+                signed(limit),
+                real(delta),
+                flag(rng),
             ];
             args.extend(outline_args(rng, &[0, 1, 1, 2], &palette));
             let margin = rng.pick(&[0, 0, 0, 1, -1, i32::MAX, i32::MIN]);
             let tileset = Arg::Num(u64::from(rng.once_in(4)));
-            args.extend([tileset, flag(rng), flag(rng), signed(margin), work(slack(rng, 8 * needed)), words(slack(rng, 7))]);
+            args.extend([
+                tileset,
+                flag(rng),
+                flag(rng),
+                signed(margin),
+                work(slack(rng, 8 * needed)),
+                words(slack(rng, 7)),
+            ]);
             args
         }
         Entry::Rgb8ToLab => {
@@ -490,21 +533,51 @@ fn hex_text(rng: &mut Rng) -> Vec<u8> {
 
 // ---------------------------------------------------------------------------------- named calls
 
-fn orphans_call(cells: &[i32], h: usize, w: usize, palette: &[f64], region: i32, passes: u64, delta: f64) -> Call {
+fn orphans_call(
+    cells: &[i32],
+    h: usize,
+    w: usize,
+    palette: &[f64],
+    region: i32,
+    passes: u64,
+    delta: f64,
+) -> Call {
     let n = h * w;
     let args = vec![
-        lent_cells(cells.to_vec(), n), num(h), num(w),
-        Arg::Reals(lent_palette(palette)), num(palette.len() / 3),
-        signed(region), Arg::Num(passes), real(delta), work(8 * n), words(1),
+        lent_cells(cells.to_vec(), n),
+        num(h),
+        num(w),
+        Arg::Reals(lent_palette(palette)),
+        num(palette.len() / 3),
+        signed(region),
+        Arg::Num(passes),
+        real(delta),
+        work(8 * n),
+        words(1),
     ];
     Call { entry: Entry::RemoveOrphans, args }
 }
 
-fn outline_call(cells: &[i32], h: usize, w: usize, palette: &[f64], kind: u64, darken: f64, rgb: [u8; 3], pad: bool, fixed: bool) -> Call {
+fn outline_call(
+    cells: &[i32],
+    h: usize,
+    w: usize,
+    palette: &[f64],
+    kind: u64,
+    darken: f64,
+    rgb: [u8; 3],
+    pad: bool,
+    fixed: bool,
+) -> Call {
     let n = padded_len(h, w);
     let mut args = vec![
-        lent_cells(cells.to_vec(), n), num(h), num(w),
-        Arg::Reals(lent_palette(palette)), num(palette.len() / 3), Arg::Num(kind), real(darken),
+        lent_cells(cells.to_vec(), n),
+        num(h),
+        num(w),
+        Arg::Reals(lent_palette(palette)),
+        num(palette.len() / 3),
+        Arg::Num(kind),
+        real(darken),
     ];
     args.extend(rgb.map(|v| Arg::Num(u64::from(v))));
     args.extend([num(usize::from(pad)), num(usize::from(fixed)), work(8 * n), words(5)]);
@@ -638,11 +711,9 @@ pub fn sound(entry: Entry) -> Call {
         Entry::Rgb8ToLab => vec![Arg::Bytes(vec![1, 2, 3, 4, 5, 6]), reals(6)],
         Entry::LabToRgb8 => vec![Arg::Reals(palette.to_vec()), Arg::Bytes(vec![SPARE_BYTE; 6])],
         Entry::DeltaE => vec![Arg::Reals(palette.to_vec()), Arg::Reals(vec![1.0; 6]), reals(2)],
-        Entry::NearestIndex => vec![
-            Arg::Reals(vec![1.0; 6]),
-            Arg::Reals(palette.to_vec()),
-            lent_cells(Vec::new(), 2),
-        ],
+        Entry::NearestIndex => {
+            vec![Arg::Reals(vec![1.0; 6]), Arg::Reals(palette.to_vec()), lent_cells(Vec::new(), 2)]
+        }
         Entry::PaletteDistanceMatrix => vec![Arg::Reals(palette.to_vec()), reals(4)],
         Entry::HexToRgb8 => vec![Arg::Bytes(b"#12aBcd".to_vec()), Arg::Bytes(vec![SPARE_BYTE; 3])],
     });
@@ -748,7 +819,13 @@ pub fn damages(entry: Entry) -> Vec<Damage> {
     let mut all = match entry {
         Entry::LabelRegions | Entry::Label4 => {
             let mut all = sides();
-            all.extend([shorten(2, 0, 5), shorten(2, 3, 5), shorten(2, 5, 0), shorten(3, 4, 47), shorten(3, 4, 0)]);
+            all.extend([
+                shorten(2, 0, 5),
+                shorten(2, 3, 5),
+                shorten(2, 5, 0),
+                shorten(3, 4, 47),
+                shorten(3, 4, 0),
+            ]);
             all
         }
         Entry::BinaryDilation8 => {
@@ -809,13 +886,26 @@ pub fn damages(entry: Entry) -> Vec<Damage> {
             all
         }
         Entry::DeltaE => {
-            let mut all = vec![shorten(2, 2, 1), lengthen(4, 0, 7), lengthen(4, 1, 8), lengthen(4, 1, 9), shorten(4, 1, 3), shorten(4, 0, 3)];
+            let mut all = vec![
+                shorten(2, 2, 1),
+                lengthen(4, 0, 7),
+                lengthen(4, 1, 8),
+                lengthen(4, 1, 9),
+                shorten(4, 1, 3),
+                shorten(4, 0, 3),
+            ];
             all.extend(wild_values(0));
             all.extend(wild_values(1));
             all
         }
         Entry::NearestIndex => {
-            let mut all = vec![shorten(2, 2, 1), lengthen(4, 0, 7), lengthen(4, 1, 8), lengthen(4, 1, 771), lengthen(4, 1, 770)];
+            let mut all = vec![
+                shorten(2, 2, 1),
+                lengthen(4, 0, 7),
+                lengthen(4, 1, 8),
+                lengthen(4, 1, 771),
+                lengthen(4, 1, 770),
+            ];
             all.extend(wild_values(0));
             all.extend(wild_values(1));
             all.push(shorten(8, 1, 0));
@@ -831,15 +921,33 @@ pub fn damages(entry: Entry) -> Vec<Damage> {
                 };
                 Damage { row: 4, apply: Box::new(apply) }
             };
-            let mut all = vec![shorten(2, 1, 3), lengthen(4, 0, 7), lengthen(2, 0, 771), long(771), long(770)];
+            let mut all =
+                vec![shorten(2, 1, 3), lengthen(4, 0, 7), lengthen(2, 0, 771), long(771), long(770)];
             all.extend(wild_values(0));
             all
         }
         Entry::HexToRgb8 => vec![
-            shorten(2, 1, 2), text(b"# ff0000"), text(b""), text(b"#"), text(b"12345"), text(b"1234567"),
-            text(b"12345g"), text(b"12345G"), text(b"12345/"), text(b"12345:"), text(b"12345@"), text(b"12345`"),
-            text(b"\xc2\xa0ff0000"), text(b"ff0000\x00"), text(b"ff0000\x08"), text(b"ff0000\x0e"),
-            text(b"\x1cff0000"), text(b"#ff0000#"), text(b"ff #0000"), text(b"   "), text(b"+12345"),
+            shorten(2, 1, 2),
+            text(b"# ff0000"),
+            text(b""),
+            text(b"#"),
+            text(b"12345"),
+            text(b"1234567"),
+            text(b"12345g"),
+            text(b"12345G"),
+            text(b"12345/"),
+            text(b"12345:"),
+            text(b"12345@"),
+            text(b"12345`"),
+            text(b"\xc2\xa0ff0000"),
+            text(b"ff0000\x00"),
+            text(b"ff0000\x08"),
+            text(b"ff0000\x0e"),
+            text(b"\x1cff0000"),
+            text(b"#ff0000#"),
+            text(b"ff #0000"),
+            text(b"   "),
+            text(b"+12345"),
         ],
     };
     all.sort_by_key(|d| d.row);

@@ -135,7 +135,13 @@ impl Tally {
 fn all_sheets(n: u32, values: &[i32]) -> impl Iterator<Item = Vec<i32>> + '_ {
     let base = values.len();
     (0..base.pow(n)).map(move |mut code| {
-        (0..n).map(|_| { let v = values[code % base]; code /= base; v }).collect()
+        (0..n)
+            .map(|_| {
+                let v = values[code % base];
+                code /= base;
+                v
+            })
+            .collect()
     })
 }
 
@@ -166,11 +172,28 @@ fn three_by_three(tally: &mut Tally) {
         tally.compare(&Call { entry: Entry::LabelRegions, args });
     }
     tally.report("label_regions, all 3 x 3");
-    for (region, passes, delta) in [(2, 1, 25.0), (2, 5, 25.0), (3, 5, 25.0), (4, 1, 25.0), (4, 65_535, 25.0), (3, 5, 20.0), (10, 5, 1024.0), (1, 5, 25.0)] {
+    for (region, passes, delta) in [
+        (2, 1, 25.0),
+        (2, 5, 25.0),
+        (3, 5, 25.0),
+        (4, 1, 25.0),
+        (4, 65_535, 25.0),
+        (3, 5, 20.0),
+        (10, 5, 1024.0),
+        (1, 5, 25.0),
+    ] {
         for cells in all_sheets(9, &[-1, 0, 1]) {
             let args = vec![
-                lent(&cells, 9), num(3), num(3), dark.clone(), num(2), signed(region),
-                num(passes), real(delta), work(72), words(1),
+                lent(&cells, 9),
+                num(3),
+                num(3),
+                dark.clone(),
+                num(2),
+                signed(region),
+                num(passes),
+                real(delta),
+                work(72),
+                words(1),
             ];
             tally.compare(&Call { entry: Entry::RemoveOrphans, args });
         }
@@ -179,19 +202,51 @@ fn three_by_three(tally: &mut Tally) {
     for (kind, pad, fixed) in [(1, 0, 0), (1, 1, 0), (1, 1, 1), (2, 0, 1), (2, 1, 0)] {
         for cells in all_sheets(9, &[-1, 0, 1]) {
             let args = vec![
-                lent(&cells, 25), num(3), num(3), dark.clone(), num(2), num(kind), real(0.4),
-                num(90), num(20), num(30), num(pad), num(fixed), work(200), words(5),
+                lent(&cells, 25),
+                num(3),
+                num(3),
+                dark.clone(),
+                num(2),
+                num(kind),
+                real(0.4),
+                num(90),
+                num(20),
+                num(30),
+                num(pad),
+                num(fixed),
+                work(200),
+                words(5),
             ];
             tally.compare(&Call { entry: Entry::AddOutline, args });
         }
     }
     tally.report("add_outline, all 3 x 3");
-    for (region, kind, tileset, margin, fixed) in [(2, 1, 0, 0, 0), (3, 2, 0, 0, 0), (3, 1, 1, 0, 1), (2, 0, 0, 0, 0), (4, 1, 0, 1, 0)] {
+    for (region, kind, tileset, margin, fixed) in
+        [(2, 1, 0, 0, 0), (3, 2, 0, 0, 0), (3, 1, 1, 0, 1), (2, 0, 0, 0, 0), (4, 1, 0, 1, 0)]
+    {
         for cells in all_sheets(9, &[-1, 0, 1]) {
             let args = vec![
-                lent(&cells, 25), num(3), num(3), dark.clone(), num(2), real(1.25), num(1),
-                signed(region), real(25.0), num(1), num(kind), real(0.5), num(1), num(2), num(3),
-                num(tileset), num(0), num(fixed), signed(margin), work(200), words(7),
+                lent(&cells, 25),
+                num(3),
+                num(3),
+                dark.clone(),
+                num(2),
+                real(1.25),
+                num(1),
+                signed(region),
+                real(25.0),
+                num(1),
+                num(kind),
+                real(0.5),
+                num(1),
+                num(2),
+                num(3),
+                num(tileset),
+                num(0),
+                num(fixed),
+                signed(margin),
+                work(200),
+                words(7),
             ];
             tally.compare(&Call { entry: Entry::Run, args });
         }
@@ -276,7 +331,21 @@ fn random_calls(tally: &mut Tally, count: usize) {
             let (h, w) = (10 + rng.below(31), 10 + rng.below(31));
             tally.compare(&random_sized(rng, *entry, h, w));
         }
-        for (h, w) in [(512, 1), (1, 512), (512, 3), (2, 512), (513, 1), (1, 513), (0, 512), (512, 0), (513, 0), (0, 513), (511, 4), (100, 100), (512, 512)] {
+        for (h, w) in [
+            (512, 1),
+            (1, 512),
+            (512, 3),
+            (2, 512),
+            (513, 1),
+            (1, 513),
+            (0, 512),
+            (512, 0),
+            (513, 0),
+            (0, 513),
+            (511, 4),
+            (100, 100),
+            (512, 512),
+        ] {
             tally.compare(&random_sized(rng, *entry, h, w));
         }
         tally.report(&format!("{name}, larger"));

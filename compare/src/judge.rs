@@ -108,14 +108,7 @@ pub fn label_regions(
     0
 }
 
-pub fn label4(
-    set: &[u8],
-    h: usize,
-    w: usize,
-    labels: &mut [u32],
-    work: &[u32],
-    facts: &mut [u32],
-) -> u32 {
+pub fn label4(set: &[u8], h: usize, w: usize, labels: &mut [u32], work: &[u32], facts: &mut [u32]) -> u32 {
     let no = grid_rows(h, w, &[set.len(), labels.len()], work.len(), !facts.is_empty());
     if no != 0 {
         return no;
@@ -129,14 +122,7 @@ pub fn label4(
     0
 }
 
-pub fn binary_dilation8(
-    set: &[u8],
-    h: usize,
-    w: usize,
-    k: u32,
-    out: &mut [u8],
-    work: &[u32],
-) -> u32 {
+pub fn binary_dilation8(set: &[u8], h: usize, w: usize, k: u32, out: &mut [u8], work: &[u32]) -> u32 {
     let no = grid_rows(h, w, &[set.len(), out.len()], work.len(), true);
     let no = if no != 0 { no } else { first(&[(6, k > 65_535)]) };
     if no != 0 {
@@ -300,8 +286,7 @@ pub fn add_outline(
     work: &[u32],
     facts: &mut [u32],
 ) -> u32 {
-    let (no, padded) =
-        outline_grid_rows(cells, h, w, outline, allow_pad, work.len(), facts.len(), 5);
+    let (no, padded) = outline_grid_rows(cells, h, w, outline, allow_pad, work.len(), facts.len(), 5);
     if no != 0 {
         return no;
     }
@@ -408,9 +393,8 @@ fn pass_counts(
     if s.outline.kind != 0 {
         let (text, darken) = (s.outline.text(), s.outline.darken);
         let pad = !s.tileset && s.outline_margin == 0;
-        let lined =
-            postprocess::add_outline(&sheet, h, w, &palette, &text, darken, pad, s.fixed_palette)
-                .expect("an accepted outline");
+        let lined = postprocess::add_outline(&sheet, h, w, &palette, &text, darken, pad, s.fixed_palette)
+            .expect("an accepted outline");
         sheet = lined.indices;
         if s.remove_orphans {
             (sheet, counts[1]) = clean(&sheet, lined.height, lined.width, &lined.palette_lab, 1);
@@ -433,8 +417,7 @@ pub fn run(
 ) -> u32 {
     let s = settings;
     let allow_pad = !s.tileset && s.outline_margin == 0;
-    let (no, padded) =
-        outline_grid_rows(cells, h, w, s.outline, allow_pad, work.len(), facts.len(), 7);
+    let (no, padded) = outline_grid_rows(cells, h, w, s.outline, allow_pad, work.len(), facts.len(), 7);
     if no != 0 {
         return no;
     }
@@ -520,11 +503,7 @@ pub fn nearest_index(pixels: &[f64], palette: &[f64], out: &mut [i32]) -> u32 {
 
 pub fn palette_distance_matrix(palette: &[f64], out: &mut [f64]) -> u32 {
     let n = palette.len() / 3;
-    let no = first(&[
-        (2, out.len() < n * n),
-        (4, palette.len() % 3 != 0 || n > COLOURS),
-        (5, wild(palette)),
-    ]);
+    let no = first(&[(2, out.len() < n * n), (4, palette.len() % 3 != 0 || n > COLOURS), (5, wild(palette))]);
     if no == 0 {
         out[..n * n].copy_from_slice(&color::palette_distance_matrix(palette));
     }
@@ -548,7 +527,8 @@ fn hex(text: &[u8]) -> Option<[u8; 3]> {
     }
     let digit = |b: u8| (b as char).to_digit(16).map(|d| d as u8);
     let digits: Option<Vec<u8>> = t.iter().map(|&b| digit(b)).collect();
-    let found = digits.filter(|d| d.len() == 6).map(|d| [d[0] * 16 + d[1], d[2] * 16 + d[3], d[4] * 16 + d[5]]);
+    let found =
+        digits.filter(|d| d.len() == 6).map(|d| [d[0] * 16 + d[1], d[2] * 16 + d[3], d[4] * 16 + d[5]]);
     if text.is_ascii() {
         assert_eq!(found, color::hex_to_rgb8(std::str::from_utf8(text).unwrap()).ok());
     }

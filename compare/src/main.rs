@@ -3,7 +3,9 @@
 //!     compare check [COUNT]          every comparison; COUNT random calls of each entry
 //!     compare bench                  times of the port and of the Rust, in one process
 //!     compare vectors FOLDER         writes the stored answers
-//!     compare cases ENTRY COUNT SEED prints random cases with the reference's answers
+//!     compare cases ENTRY COUNT SEED [SIDE]
+//!                                    prints random cases with the reference's answers; with SIDE
+//!                                    the sheets are SIDE x SIDE
 
 mod bench;
 mod call;
@@ -27,12 +29,15 @@ fn main() {
         ["check", count] => std::process::exit(check::all(number(count) as usize).min(1) as i32),
         ["bench"] => bench::all(),
         ["vectors", folder] => vectors::write_all(folder),
-        ["cases", entry, count, seed] => {
+        ["cases", entry, count, seed, side @ ..] => {
             let entry = ENTRIES.iter().find(|e| e.1 == *entry).expect("an entry").0;
-            vectors::print(entry, number(count) as usize, number(seed));
+            let side = side.first().map(|text| number(text) as usize);
+            vectors::print(entry, number(count) as usize, number(seed), side);
         }
         _ => {
-            eprintln!("usage: compare check [COUNT] | bench | vectors FOLDER | cases ENTRY COUNT SEED");
+            eprintln!(
+                "usage: compare check [COUNT] | bench | vectors FOLDER | cases ENTRY COUNT SEED [SIDE]"
+            );
             std::process::exit(2);
         }
     }

@@ -1,7 +1,9 @@
 //! Stored answers: calls with what the reference gives, as text (see vectors/README.md).
 
 use crate::call::{Arg, Call, Entry, ENTRIES};
-use crate::cases::{named, pairs, random, singles, sound, Rng, SPARE_BYTE, SPARE_CELL, SPARE_REAL, SPARE_WORD};
+use crate::cases::{
+    named, pairs, random, random_sized, singles, sound, Rng, SPARE_BYTE, SPARE_CELL, SPARE_REAL, SPARE_WORD,
+};
 use std::io::Write;
 
 fn spare(arg: &Arg) -> u64 {
@@ -74,12 +76,15 @@ pub fn write_all(folder: &str) {
     }
 }
 
-/// Prints `count` random cases of an entry.
-pub fn print(entry: Entry, count: usize, seed: u64) {
+/// Prints `count` random cases of an entry, on sheets of one side or of any.
+pub fn print(entry: Entry, count: usize, seed: u64, side: Option<usize>) {
     let rng = &mut Rng(seed);
     let mut out = std::io::stdout().lock();
     for _ in 0..count {
-        let call = random(rng, entry);
+        let call = match side {
+            Some(n) => random_sized(rng, entry, n, n),
+            None => random(rng, entry),
+        };
         out.write_all(line(&call).as_bytes()).expect("standard output");
     }
 }

@@ -30,7 +30,11 @@ fn triple(code: u32) -> [u8; 3] {
 fn places(a: f64, b: f64) -> u64 {
     let key = |v: f64| {
         let bits = v.to_bits() as i64;
-        if bits < 0 { i64::MIN - bits } else { bits }
+        if bits < 0 {
+            i64::MIN - bits
+        } else {
+            bits
+        }
     };
     key(a).abs_diff(key(b))
 }
@@ -116,7 +120,10 @@ fn runs(count: u32, dark: bool, own: bool) {
         let same = p.palette_lab.iter().zip(&l.palette_lab).all(|(a, b)| a.to_bits() == b.to_bits());
         bits += u32::from(!same);
         rgb += u32::from(patched::lab_to_rgb8(&p.palette_lab) != libm::lab_to_rgb8(&l.palette_lab));
-        facts += u32::from((p.stats.outline_index, p.stats.outline_clipped) != (l.stats.outline_index, l.stats.outline_clipped));
+        facts += u32::from(
+            (p.stats.outline_index, p.stats.outline_clipped)
+                != (l.stats.outline_index, l.stats.outline_clipped),
+        );
         if p.indices != l.indices && shown < 2 {
             shown += 1;
             println!("  palette {bytes:02x?}, outline {outline}, darken {darken}, beta {beta}, fixed {fixed}: index {:?} and {:?}", p.stats.outline_index, l.stats.outline_index);
@@ -138,7 +145,10 @@ fn halves() {
             differing.push((bytes, patched::lab_to_rgb8(&p), libm::lab_to_rgb8(&l)));
         }
     }
-    println!("auto, darken 0.5, entries with channels below 24: the line's RGB8 differs for {} of 13824", differing.len());
+    println!(
+        "auto, darken 0.5, entries with channels below 24: the line's RGB8 differs for {} of 13824",
+        differing.len()
+    );
     for d in differing.iter().take(3) {
         println!("  {d:02x?}");
     }
