@@ -2,8 +2,8 @@
 """Writes vectors/silk_cases.txt: inputs of the program `silk` and what it has to print.
 
 Three lines a case: its name after '# ', the input, the output, both as Python writes bytes inside
-quotes (\\n, \\r, \\x00, \\\\), a long run of one letter as <LETTER*COUNT>. `check_silk.py PROGRAM` replays them. Inputs of at most 4,096 bytes are
-also written to vectors/silk.txt, in the number format of vectors/README.md: input, then output.
+quotes, a long run of one letter as <LETTER*COUNT>. `check_silk.py PROGRAM` replays them. Inputs of
+at most 4,096 bytes are also written to vectors/silk.txt, in numbers: see vectors/README.md.
 """
 
 import os

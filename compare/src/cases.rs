@@ -73,6 +73,9 @@ fn staircase(rng: &mut Rng, cells: &mut [i32], h: usize, w: usize, a: i32) {
     if rng.once_in(2) {
         line.extend([(-2 * sy, 3 * sx), (3 * sy, -2 * sx)]);
     }
+    if rng.once_in(4) {
+        line.remove(rng.below(5)); // a near corner
+    }
     for (dy, dx) in line {
         let (v, u) = (y + dy, x + dx);
         if v >= 0 && u >= 0 && v < h as i32 && u < w as i32 {
@@ -182,9 +185,10 @@ pub fn colour(rng: &mut Rng) -> [f64; 3] {
             [lab[0], lab[1], lab[2]]
         }
         5 => {
+            // near black all is linear: halves lie on thresholds
             let rgb = [rng.below(24) as u8, rng.below(24) as u8, rng.below(24) as u8];
-            let lab = color::rgb8_to_lab(&rgb);
-            [lab[0], lab[1], lab[2]]
+            let (lab, part) = (color::rgb8_to_lab(&rgb), rng.pick(&[1.0, 0.5]));
+            [lab[0] * part, lab[1] * part, lab[2] * part]
         }
         _ => [rng.between(0.0, 100.0), rng.between(-60.0, 60.0), rng.between(-60.0, 60.0)],
     }
@@ -216,8 +220,12 @@ pub fn colours(rng: &mut Rng, k: usize) -> Vec<f64> {
 /// A colour and two others whose squared distances from it differ in the last places and whose
 /// distances are one double; the farther one by squares comes first.
 pub fn root_tie(rng: &mut Rng) -> [f64; 9] {
+    let base = colour(rng).map(|v| v.clamp(-100.0, 100.0));
+    root_tie_at(rng, base)
+}
+
+fn root_tie_at(rng: &mut Rng, base: [f64; 3]) -> [f64; 9] {
     loop {
-        let base = colour(rng).map(|v| v.clamp(-100.0, 100.0));
         let d = [rng.between(0.0, 20.0), rng.between(0.0, 20.0), rng.between(0.0, 20.0)];
         let p = [base[0] + d[0], base[1] + d[1], base[2] + d[2]];
         let q = [base[0] + d[1], base[1] + d[2], base[2] + d[0]];
@@ -410,6 +418,13 @@ pub fn random_sized(rng: &mut Rng, entry: Entry, h: usize, w: usize) -> Call {
             let cells = sheet_in(rng, h, w, k, manner);
             vec![lent_cells(cells, slack(rng, n)), num(h), num(w), work(slack(rng, 8 * n))]
         }
+        Entry::AddOutline if rng.once_in(12) => {
+            // the nearest entry of a fixed palette: equal distances of unequal squares
+            let rgb = [rng.next() as u8, rng.next() as u8, rng.next() as u8];
+            let lab = color::rgb8_to_lab(&rgb);
+            let tie = root_tie_at(rng, [lab[0], lab[1], lab[2]]);
+            return outline_call(&sheet(rng, h, w, 2), h, w, &tie[3..], 2, 0.0, rgb, true, true);
+        }
         Entry::AddOutline => {
             let (cells, palette) = material(rng, h, w, true);
             let needed = if rng.once_in(20) { n } else { padded_len(h, w) };
@@ -589,7 +604,36 @@ fn jaggies_call(cells: &[i32], h: usize, w: usize) -> Call {
     Call { entry: Entry::FixJaggies, args }
 }
 
-/// The specification's examples M1 to M12, and full palettes.
+/// All passes on, the outline auto by half.
+fn run_call(cells: &[i32], h: usize, w: usize, palette: &[f64], tileset: bool) -> Call {
+    let n = padded_len(h, w);
+    let args = vec![
+        lent_cells(cells.to_vec(), n),
+        num(h),
+        num(w),
+        Arg::Reals(lent_palette(palette)),
+        num(palette.len() / 3),
+        real(1.0),
+        num(1),
+        signed(2),
+        real(25.0),
+        num(1),
+        num(1),
+        real(0.5),
+        num(0),
+        num(0),
+        num(0),
+        num(usize::from(tileset)),
+        num(0),
+        num(0),
+        signed(0),
+        work(8 * n),
+        words(7),
+    ];
+    Call { entry: Entry::Run, args }
+}
+
+/// The specification's examples M1 to M12, full palettes, and the errors that this code invites.
 pub fn named(entry: Entry) -> Vec<Call> {
     let q = [0.0, 0.0, 0.0, 6.0, 8.0, 0.0, 3.0, 4.0, 0.0];
     let q7 = [0.0, 0.0, 0.0, 6.0, 8.0, 0.0, 6.0, 4.0, 0.0];
@@ -599,6 +643,7 @@ pub fn named(entry: Entry) -> Vec<Call> {
     match entry {
         Entry::RemoveOrphans => {
             let full = colours(rng, 256);
+            let far = [0.0, 0.0, 0.0, 55.0, 0.0, 0.0, 50.0, 0.0, 0.0, 54.0, 0.0, 0.0];
             let mut sheet = vec![7; 16];
             sheet[5] = 255;
             sheet[10] = 128;
@@ -613,9 +658,44 @@ pub fn named(entry: Entry) -> Vec<Call> {
                 orphans_call(&[0, 0, 2, 1, 1], 1, 5, &q7, 2, 5, 25.0),
                 orphans_call(&[], 0, 7, &q, 2, 5, 25.0),
                 orphans_call(&sheet, 4, 4, &full, 3, 5, 1024.0),
+                // a neighbour of two cells of a region counts once: 1 wins
+                orphans_call(&[2, 2, 1, 0, -1, 1, 0, 0, 1], 3, 3, &q, 3, 5, 25.0),
+                // frozen in the first pass, and not thawed when a nearer index comes beside it
+                orphans_call(&[0, 0, 2, 3, 1, 1], 1, 6, &far, 2, 5, 25.0),
+                // equal votes, equal distances of unequal squares: the lowest index
+                orphans_call(&[1, 1, 0, 2, 2], 1, 5, &root_tie(rng), 2, 5, 1024.0),
             ]
         }
-        Entry::FixJaggies => vec![jaggies_call(&stairs, 4, 4), jaggies_call(&stairs[..12], 3, 4)],
+        Entry::FixJaggies => {
+            // two corners that touch: both are judged by the input
+            let touching = [
+                1, 1, 1, 0, 1, //
+                1, 0, 0, 0, 1, //
+                1, 0, 1, 1, 1, //
+                0, 0, 1, 0, 1, //
+                1, 1, 1, 1, 1,
+            ];
+            let turned: Vec<i32> = touching.iter().rev().copied().collect();
+            vec![
+                jaggies_call(&stairs, 4, 4),
+                jaggies_call(&stairs[..12], 3, 4),
+                jaggies_call(&touching, 5, 5),
+                jaggies_call(&turned, 5, 5),
+            ]
+        }
+        Entry::Run => {
+            // more single cells than the passes can take, no ring: five passes, then one
+            let chain = [0, 0, 1, 2, 1, 2, 1, 2, 1, 2];
+            let dark = color::rgb8_to_lab(&[0x01, 0x17, 0x14]);
+            vec![run_call(&chain, 1, 10, &q, true), run_call(&[0], 1, 1, &dark, false)]
+        }
+        Entry::LabToRgb8 => {
+            // linear values that are thresholds
+            let rgb = [0, 2, 3, 0, 3, 1, 0, 9, 2, 0, 9, 3, 0, 9, 6, 1, 0x17, 0x14];
+            let lab: Vec<f64> = color::rgb8_to_lab(&rgb).iter().map(|v| v * 0.5).collect();
+            let out = Arg::Bytes(vec![SPARE_BYTE; lab.len()]);
+            vec![Call { entry, args: vec![Arg::Reals(lab), out] }]
+        }
         Entry::AddOutline => {
             let full: Vec<f64> = (0..256)
                 .flat_map(|i| [f64::from(i) / 4.0 + 30.0, f64::from(i % 16) - 8.0, f64::from(i / 16) - 8.0])

@@ -2,6 +2,7 @@
 //!
 //!     compare check [COUNT]          every comparison; COUNT random calls of each entry
 //!     compare bench                  times of the port and of the Rust, in one process
+//!     compare differences            what the Rust does where the specification refuses
 //!     compare vectors FOLDER         writes the stored answers
 //!     compare cases ENTRY COUNT SEED [SIDE]
 //!                                    prints random cases with the reference's answers; with SIDE
@@ -11,6 +12,7 @@ mod bench;
 mod call;
 mod cases;
 mod check;
+mod differences;
 mod judge;
 mod lend;
 mod port;
@@ -28,6 +30,7 @@ fn main() {
         ["check"] => std::process::exit(check::all(20_000).min(1) as i32),
         ["check", count] => std::process::exit(check::all(number(count) as usize).min(1) as i32),
         ["bench"] => bench::all(),
+        ["differences"] => differences::all(),
         ["vectors", folder] => vectors::write_all(folder),
         ["cases", entry, count, seed, side @ ..] => {
             let entry = ENTRIES.iter().find(|e| e.1 == *entry).expect("an entry").0;
@@ -36,7 +39,7 @@ fn main() {
         }
         _ => {
             eprintln!(
-                "usage: compare check [COUNT] | bench | vectors FOLDER | cases ENTRY COUNT SEED [SIDE]"
+                "usage: compare check [COUNT] | bench | differences | vectors FOLDER | cases ENTRY COUNT SEED [SIDE]"
             );
             std::process::exit(2);
         }

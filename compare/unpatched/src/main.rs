@@ -149,8 +149,8 @@ fn halves() {
         "auto, darken 0.5, entries with channels below 24: the line's RGB8 differs for {} of 13824",
         differing.len()
     );
-    for d in differing.iter().take(3) {
-        println!("  {d:02x?}");
+    for d in differing.iter().take(3).chain(differing.iter().find(|d| d.0 == [0x01, 0x17, 0x14])) {
+        println!("  entry {:02x?}: stand-ins {:02x?}, libm {:02x?}", d.0, d.1, d.2);
     }
 }
 
