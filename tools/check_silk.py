@@ -1,0 +1,45 @@
+#!/usr/bin/env python3
+"""Runs a program on vectors/silk_cases.txt and examples/: check_silk.py PROGRAM [ARGUMENT...]
+
+Prints each input whose output is another than the stored one, and how many were tried.
+"""
+
+import ast
+import glob
+import os
+import re
+import subprocess
+import sys
+
+ROOT = os.path.join(os.path.dirname(os.path.abspath(__file__)), "..")
+
+
+def unquoted(line):
+    line = re.sub(r"<(.)\*(\d+)>", lambda run: run[1] * int(run[2]), line)
+    return ast.literal_eval('b"' + line.replace('"', '\\"') + '"')
+
+
+def cases():
+    with open(os.path.join(ROOT, "vectors/silk_cases.txt"), encoding="ascii") as file:
+        lines = file.read().splitlines()
+    for i in range(0, len(lines), 3):
+        yield lines[i][2:], unquoted(lines[i + 1]), unquoted(lines[i + 2])
+    for path in sorted(glob.glob(os.path.join(ROOT, "examples/*.txt"))):
+        with open(path, "rb") as file, open(path[:-3] + "out", "rb") as out:
+            yield os.path.basename(path), file.read(), out.read()
+
+
+def main(program):
+    tried, differing = 0, 0
+    for name, data, expected in cases():
+        done = subprocess.run(program, input=data, stdout=subprocess.PIPE, check=False)
+        tried += 1
+        if done.stdout != expected:
+            differing += 1
+            print(f"{name}: printed {done.stdout[:200]!r}, stored {expected[:200]!r}")
+    print(f"{tried} inputs, {differing} differ")
+    return 1 if differing else 0
+
+
+if __name__ == "__main__":
+    sys.exit(main(sys.argv[1:]))
