@@ -248,30 +248,3 @@ greatest-is (suc n) t v =
 pub greatest-at : (n : ℕ) (t : ℕ → Bool) (v : ℕ → ℕ) (p : ℕ) → p < n → t p ≡ true → (q : ℕ) × (q < n) × (t q ≡ true) × (v q ≡ greatest n t v)
 greatest-at n t v p h y =
     ⊎-elim (λ e. let l = greatest-above n t v p h y in (p, h, y, omega arith)) (λ w. (w .0, w .1, w .2, sym (w .3))) (greatest-is n t v)
-
--- ---- places carried to places
-
--- f carries what passes t to what passes u, and g undoes it
-pub count-carried : (n m : ℕ) (t u : ℕ → Bool) (f g : ℕ → ℕ) → ((p : ℕ) → p < n → t p ≡ true → (f p < m) × (u (f p) ≡ true) × (g (f p) ≡ p)) → count n t ≤ count m u
-unfolding count
-count-carried zero m t u f g c = zero-le
-count-carried (suc n) m t u f g c =
-    case (t n)
-    (λ y. let w = c n (lt-suc-self n) y in
-    let u′ : ℕ → Bool = (λ x. u x && not (eqb x (f n))) in
-    let i = count-carried n m t u′ f g (λ p h e. let k = c p (le-step h) e in (
-      k .0,
-      both (k .1) (not-false (case (eqb (f p) (f n))
-          (λ z. let q : p ≡ n = sym (k .2) ∙ ap g (eqb-yes {m = f p} {n = f n} z) ∙ w .2 in absurd (omega arith)) (λ z. z))),
-      k .2,
-    )) in
-    let l = count-less m u′ u (λ p h e. left (u p) (not (eqb p (f n))) e) (f n) (w .0)
-    (case (u′ (f n)) (λ z. clash (yes-eqb {m = f n} refl) (not-true (right (u (f n)) (not (eqb (f n) (f n))) z))) (λ z. z)) (w .1) in
-    rw y (omega arith))
-    (λ z. let i = count-carried n m t u f g (λ p h e. c p (le-step h) e) in rw z (omega arith))
-
-pub greatest-carried : (n m : ℕ) (t u : ℕ → Bool) (v w : ℕ → ℕ) (f : ℕ → ℕ) → ((p : ℕ) → p < n → t p ≡ true → (f p < m) × (u (f p) ≡ true) × (v p ≤ w (f p))) → greatest n t v ≤ greatest m u w
-greatest-carried n m t u v w f c =
-    ⊎-elim (λ e. rw e zero-le)
-    (λ k. let i = c (k .0) (k .1) (k .2) in rw (k .3) (le-trans (i .2) (greatest-above m u w (f (k .0)) (i .0) (i .1))))
-    (greatest-is n t v)
