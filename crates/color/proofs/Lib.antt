@@ -1,3 +1,8 @@
+pub mod Skipping
+pub mod Digits
+pub mod Scans
+pub mod Fillings
+pub mod Answers
 pub mod Entries
 pub mod Tests
 pub mod Tables

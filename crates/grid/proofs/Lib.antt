@@ -1,0 +1,6 @@
+pub mod Signs
+pub mod Places
+pub mod Planes
+pub mod Filling
+pub mod Tiles
+pub mod Answers

@@ -1,0 +1,85 @@
+-- `grid::label::label_planes`: every place in raster order. Assumes nothing.
+use Prim.Native.Nat.{_-_, _*_, _≤_}
+use native.Mathlib.Omega.{arith}
+use Rattle.grid.specs.Filling.{Sized, Filled, Shut, Passed, Kept}
+use Rattle.grid.proofs.Places.{area}
+use Rattle.grid.proofs.Filling.{kept-refl, kept-trans, cleared-kept, start-filled, start-passed, all-labelled}
+use Rattle.grid.proofs.label.label_planes.Statement.{statement}
+use Rattle.grid.proofs.label.label_planes.Tie as tie
+
+abbrev Inv-loop : tie.InvT-loop
+Inv-loop work₀ h w steps n t₀ s₀ work t s =
+    Filled h w steps work (t .regions) t Shut × Passed h w steps work t s × Kept (h * w) work₀ work × (s ≤ h * w)
+
+abbrev μ-loop : tie.MeasureT-loop
+μ-loop work₀ h w steps n t₀ s₀ work t s = h * w - s
+
+few : (c : tie.Start Inv-loop μ-loop) → c .args .h * c .args .w ≤ 264196
+few c = area _ _ (c .pre .rows) (c .pre .cols)
+
+mul-n : tie.Need-mul-n Inv-loop μ-loop
+mul-n c = omega (arith, few (c .before))
+
+clear-requires : tie.Need-clear-requires Inv-loop μ-loop
+clear-requires c κs = let s = c .before .before in (s .pre .planes, few s)
+
+abbrev cleared : tie.After-slice-known2 Inv-loop μ-loop → tie.After-clear Inv-loop μ-loop
+cleared c = c .before .before
+
+abbrev start : tie.After-slice-known2 Inv-loop μ-loop → tie.Start Inv-loop μ-loop
+start c = c .before .before .before .before .before
+
+-- the sizes are the same once plane 1 is cleared
+sized : (c : tie.After-slice-known2 Inv-loop μ-loop) → Sized (start c .args .h) (start c .args .w) (start c .args .steps) (cleared c .clear .last .0)
+sized c =
+    let p = start c .pre in
+    record { rows = p .rows; cols = p .cols; count = p .count; planes = omega (arith, p .planes, cleared c .clear .ensures .size) }
+
+loop-holds : tie.Need-loop-holds Inv-loop μ-loop
+loop-holds c =
+    let b = cleared c .clear .ensures .blank in
+    (start-filled (sized c) b, start-passed (sized c) b, kept-refl _, omega arith)
+
+begin-requires : tie.Need-begin-requires Inv-loop μ-loop
+begin-requires c κs = let i = c .before in let v = i .before .loop .inv in (v .0, (v .1, i .loop-test .taken))
+
+add-s : tie.Need-add-s Inv-loop μ-loop
+add-s c = let i = c .before .before .before .before in omega (arith, i .loop-test .taken, few (start (i .before .before)))
+
+loop-less : tie.Need-loop-less Inv-loop μ-loop
+loop-less c = omega (arith, c .before .before .before .before .loop-test .taken)
+
+loop-again : tie.Need-loop-again Inv-loop μ-loop
+loop-again c =
+    let b = c .before .before in
+    let i = b .before .before in
+    let e = b .begin .ensures in
+    (e .0, e .1 .0, kept-trans (i .before .loop .inv .2) (e .1 .1 .kept), omega (arith, i .loop-test .taken))
+
+-- what is kept since the entry
+kept-all : (c : tie.After-loop Inv-loop μ-loop) → let s = start (c .before .before) .args in Kept (s .h * s .w) (s .work .now) (c .before .loop .work)
+kept-all c = kept-trans (cleared-kept (cleared (c .before .before) .clear .ensures)) (c .before .loop .inv .2)
+
+same-length : tie.Need-same-length Inv-loop μ-loop
+same-length c = kept-all c .size
+
+returns : tie.Need-returns Inv-loop μ-loop
+returns c =
+    let v = c .before .loop .inv in
+    (all-labelled (v .0) (v .1) (omega (arith, v .3, c .loop-test .left)) (kept-all c), kept-all c)
+
+pub label-planes-spec : {M : Type 1} → statement M
+label-planes-spec =
+    tie.close
+    (tie.spec
+    Inv-loop
+    μ-loop
+    mul-n
+    clear-requires
+    loop-holds
+    begin-requires
+    add-s
+    loop-less
+    loop-again
+    same-length
+    returns)

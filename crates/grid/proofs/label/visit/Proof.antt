@@ -1,0 +1,177 @@
+-- `grid::label::visit`: one step. Assumes nothing.
+use mathlib.Core.Path.{_≡_, refl, sym, _∙_}
+use mathlib.Core.Option.{some}
+use Prim.Native.Nat.{ℕ, _+_, _*_, _<_, _≤_}
+use native.Mathlib.Omega.{arith}
+use borrow.Author.Needs.{needs}
+use lib.Dec.{eqb}
+use lib.ListN.{length, getD, length-set}
+use mir.Facts.{toZ-ofZ}
+use Rattle.base.proofs.Counting.{count-some, yes-eqb}
+use Rattle.rules.specs.Grid.{stepTo}
+use Rattle.grid.specs.Steps.{stepOf}
+use Rattle.grid.specs.Planes.{plane}
+use Rattle.grid.specs.Filling.{blanks, Visited}
+use Rattle.grid.proofs.Places.{area, step-sound, step-cell, step-off, some-inj, none-some}
+use Rattle.grid.proofs.Planes.{plane-read}
+use Rattle.grid.proofs.label.visit.Statement.{statement}
+use Rattle.grid.proofs.label.visit.Tie as tie
+
+mul-n : tie.Need-mul-n
+mul-n c = let s = c .before in omega (arith, area _ _ (s .pre .0 .2) (s .pre .0 .3))
+
+neighbour-requires : tie.Need-neighbour-requires
+neighbour-requires c κs =
+    let s = c .before in
+    let p = s .pre .1 .0 in (
+      (s .pre .0 .0, s .pre .0 .1, s .pre .0 .2, s .pre .0 .3),
+      (rw (toZ-ofZ (s .fits .dy)) (p .0), rw (toZ-ofZ (s .fits .dy)) (p .1), rw (toZ-ofZ (s .fits .dx)) (p .2), rw (toZ-ofZ (s .fits .dx)) (p .3)),
+    )
+
+enum-known-q : tie.Need-enum-known-q
+enum-known-q c = search needs
+
+enum-told : tie.Need-enum-told
+enum-told c = search needs
+
+-- what the step finds
+found : (c : tie.After-neighbour) → let s = c .before .before .args in c .neighbour .result ≡ stepOf (stepTo (s .h) (s .w) (s .y) (s .x) (s .dy) (s .dx))
+found c = let s = c .before .before in rw (toZ-ofZ (s .fits .dy), toZ-ofZ (s .fits .dx)) at (c .neighbour .ensures)
+
+returns : tie.Need-returns
+returns c = Visited.kept (λ q e same free. none-some (sym (step-off (sym (found (c .before .before)) ∙ c .enum-told .given .1)) ∙ e))
+
+abbrev start : tie.After-q → tie.Start
+start c = c .before .before .before .before
+
+abbrev q : tie.After-q → ℕ
+q c = c .q .given .0 .0
+
+abbrev n : tie.After-q → ℕ
+n c = start c .args .h * start c .args .w
+
+q-is : (c : tie.After-q) → let s = start c .args in stepTo (s .h) (s .w) (s .y) (s .x) (s .dy) (s .dx) ≡ some (q c)
+q-is c = step-cell (sym (found (c .before .before)) ∙ c .q .given .1)
+
+-- no other cell is found
+only : (c : tie.After-q) (r : ℕ) → (let s = start c .args in stepTo (s .h) (s .w) (s .y) (s .x) (s .dy) (s .dx) ≡ some r) → r ≡ q c
+only c r e = some-inj (sym e ∙ q-is c)
+
+pub record Bounds (c : tie.After-q) : Type 0 where
+  pub on : q c < n c
+  pub few : n c ≤ 264196
+  pub room : 8 * n c ≤ length (start c .args .work .now)
+
+bounds : (c : tie.After-q) → Bounds c
+bounds c =
+    let s = start c in
+    record { on = step-sound _ _ _ _ _ _ _ (q-is c) .inside; few = area _ _ (s .pre .0 .2) (s .pre .0 .3); room = s .pre .0 .4 }
+
+add-if1 : tie.Need-add-if1
+add-if1 c = omega (arith, bounds (c .before))
+
+mul-if1 : tie.Need-mul-if1
+mul-if1 c = omega (arith, bounds (c .before))
+
+slice-read-if1 : tie.Need-slice-read-if1
+slice-read-if1 c = omega (arith, bounds (c .before .before))
+
+-- the paint and the label of the cell, as they are read
+paint-at : (c : tie.After-q) (r : ℕ) → r ≡ q c → getD (start c .args .work .now) (q c) 0 ≡ plane (n c) 0 (start c .args .work .now) r
+paint-at c r e = plane-read (n c) 0 r (q c) (start c .args .work .now) (omega arith)
+
+label-at : (c : tie.After-q) (r : ℕ) → r ≡ q c → getD (start c .args .work .now) (n c + q c) 0 ≡ plane (n c) 1 (start c .args .work .now) r
+label-at c r e = plane-read (n c) 1 r (n c + q c) (start c .args .work .now) (omega arith)
+
+returns-2 : tie.Need-returns-2
+returns-2 c =
+    let a = c .before .before .before in
+    Visited.kept (λ r e same free. c .if1 .taken (label-at a r (only a r e) ∙ free))
+
+mul-if2 : tie.Need-mul-if2
+mul-if2 c = omega (arith, bounds (c .before .before .before))
+
+slice-read-if2 : tie.Need-slice-read-if2
+slice-read-if2 c = omega (arith, bounds (c .before .before .before .before))
+
+abbrev to-q : tie.Else2 → tie.After-q
+to-q c = c .before .before .before .before .before
+
+returns-3 : tie.Need-returns-3
+returns-3 c =
+    let a = c .before .before .before .before .before in
+    Visited.kept (λ r e same free. c .if2 .taken (paint-at a r (only a r e) ∙ same))
+
+free-at : (c : tie.Else2) → plane (n (to-q c)) 1 (start (to-q c) .args .work .now) (q (to-q c)) ≡ 0
+free-at c = sym (label-at (to-q c) (q (to-q c)) refl) ∙ c .before .before .if1 .left
+
+-- a cell without a label leaves room in the order
+left : (c : tie.Else2) → start (to-q c) .args .t .taken < n (to-q c)
+unfolding blanks
+left c =
+    let a = to-q c in
+    let w = start a .args .work .now in
+    omega (arith, start a .pre .1 .1, count-some (n a) (λ p. eqb (plane (n a) 1 w p) 0) (q a) (bounds a .on) (yes-eqb (free-at c)))
+
+add-work : tie.Need-add-work
+add-work c = omega (arith, bounds (to-q c))
+
+mul-work : tie.Need-mul-work
+mul-work c = omega (arith, bounds (to-q c))
+
+slice-write-work : tie.Need-slice-write-work
+slice-write-work c = omega (arith, bounds (to-q c))
+
+cast-work : tie.Need-cast-work
+cast-work c = omega (arith, bounds (to-q c))
+
+mul-work-2 : tie.Need-mul-work-2
+mul-work-2 c = omega (arith, bounds (to-q c))
+
+add-work-2 : tie.Need-add-work-2
+add-work-2 c = omega (arith, bounds (to-q c), left c)
+
+mul-work-3 : tie.Need-mul-work-3
+mul-work-3 c = omega (arith, bounds (to-q c), left c)
+
+slice-write-work-2 : tie.Need-slice-write-work-2
+slice-write-work-2 c = simp length-set (omega (arith, bounds (to-q c), left c))
+
+add-next : tie.Need-add-next
+add-next c = omega (arith, bounds (to-q c), left c)
+
+same-length : tie.Need-same-length
+same-length c = simp length-set
+
+returns-4 : tie.Need-returns-4
+returns-4 c =
+    let a = to-q c in
+    Visited.took (q a) (q-is a) (sym (paint-at a (q a) refl) ∙ c .if2 .left) (free-at c)
+
+pub visit-spec : {M : Type 1} → statement M
+visit-spec =
+    tie.close
+    (tie.spec
+    mul-n
+    neighbour-requires
+    enum-known-q
+    enum-told
+    returns
+    add-if1
+    mul-if1
+    slice-read-if1
+    returns-2
+    mul-if2
+    slice-read-if2
+    returns-3
+    add-work
+    mul-work
+    slice-write-work
+    cast-work
+    mul-work-2
+    add-work-2
+    mul-work-3
+    slice-write-work-2
+    add-next
+    same-length
+    returns-4)

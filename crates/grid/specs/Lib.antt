@@ -1,0 +1,4 @@
+pub mod Steps
+pub mod Planes
+pub mod Filling
+pub mod Tiles

@@ -1,0 +1,117 @@
+// Cells of a grid and their neighbours, the planes of the work area, and the regions of a sheet.
+pub mod label;
+pub mod tile;
+
+use base::Filling;
+use rules::Labelling;
+ghost use mathlib.Core.Path.{_≡_};
+ghost use Prim.Native.Nat.{_≤_, _<_};
+ghost use lib.IntN.{pos, negsuc, _+ℤ_};
+ghost use lib.Signed.{leZ};
+ghost use mathlib.Core.Bool.{true};
+ghost use mathlib.Core.List.{[]};
+ghost use lib.ListN.{length};
+ghost use Rattle.base.specs.Refusals.{filling};
+ghost use Rattle.rules.specs.Grid.{onSide, stepTo};
+ghost use Rattle.rules.specs.Masks.{gridRefusal, regionsAnswer, regionsLabels};
+ghost use Rattle.grid.specs.Steps.{stepOf};
+
+// What a step from a cell finds.
+pub enum Step {
+    Cell(usize),
+    Off,
+}
+
+// The regions numbered so far, and how many places of the order are taken.
+pub struct Tally {
+    pub regions: u32,
+    pub taken: usize,
+}
+
+// The eight steps, row and column; the four orthogonal ones first.
+pub const OFFSETS8: [[i32; 2]; 8] = [
+    [-1, 0],
+    [0, -1],
+    [0, 1],
+    [1, 0],
+    [-1, -1],
+    [-1, 1],
+    [1, -1],
+    [1, 1],
+];
+
+// A step of d along a side of `len` places.
+fn along(at: usize, d: i32, len: usize) -> Step
+    requires { ⌜ (at < len) × (len ≤ 514) × (leZ (negsuc 1) d ≡ true) × (leZ d (pos 2) ≡ true) ⌝ }
+    ensures { λ r. ⌜ r ≡ stepOf (onSide len (pos at +ℤ d)) ⌝ }
+{
+    let to = at as i32 + d;
+    if to < 0 {
+        return Step::Off;
+    }
+    let next = to as usize;
+    if next < len {
+        Step::Cell(next)
+    } else {
+        Step::Off
+    }
+}
+
+// The step of dy rows and dx columns from row y and column x.
+pub fn neighbour(y: usize, x: usize, dy: i32, dx: i32, h: usize, w: usize) -> Step
+    requires { ⌜ (y < h) × (x < w) × (h ≤ 514) × (w ≤ 514) ⌝ }
+    requires { ⌜ (leZ (negsuc 1) dy ≡ true) × (leZ dy (pos 2) ≡ true) × (leZ (negsuc 1) dx ≡ true) × (leZ dx (pos 2) ≡ true) ⌝ }
+    ensures { λ r. ⌜ r ≡ stepOf (stepTo h w y x dy dx) ⌝ }
+{
+    let Step::Cell(row) = along(y, dy, h) else {
+        return Step::Off;
+    };
+    let Step::Cell(col) = along(x, dx, w) else {
+        return Step::Off;
+    };
+    let first = row * w;
+    Step::Cell(first + col)
+}
+
+// Rows 1 to 3 of an entry that reads a lent list and fills another, by their lengths and that of the work area.
+pub fn sizes(h: usize, w: usize, lent: usize, out: usize, work: usize) -> Filling
+    ensures { λ r. ⌜ r ≡ filling (gridRefusal h w lent out work []) ⌝ }
+{
+    if 512 < h {
+        return Filling::Refused(1);
+    }
+    if 512 < w {
+        return Filling::Refused(1);
+    }
+    let n = h * w;
+    if lent < n {
+        return Filling::Refused(2);
+    }
+    if out < n {
+        return Filling::Refused(2);
+    }
+    if work < 8 * n {
+        return Filling::Refused(3);
+    }
+    Filling::Done
+}
+
+// The regions of a sheet, joined by steps to the eight neighbours: its labels, 0 for transparent, and their number.
+pub fn label_regions(
+    cells: &[i32],
+    h: usize,
+    w: usize,
+    labels: &mut [u32],
+    work: &mut [u32],
+) -> Labelling
+    ensures { λ r. ⌜ r ≡ regionsAnswer (now (cells .entry)) h w (now (labels .entry)) (length (now (work .entry))) ⌝ }
+    ensures { λ r. ⌜ now (labels .exit) ≡ regionsLabels (now (cells .entry)) h w (now (labels .entry)) (length (now (work .entry))) ⌝ }
+{
+    let checked = sizes(h, w, cells.len(), labels.len(), work.len());
+    if let Filling::Refused(row) = checked {
+        return Labelling::Refused(row);
+    }
+    tile::load(cells, work, 0, w, h, w);
+    let count = label::label_into(work, h, w, 8, labels);
+    Labelling::Regions(count)
+}
