@@ -2,5 +2,6 @@ pub mod Signs
 pub mod Places
 pub mod Planes
 pub mod Filling
+pub mod Flooding
 pub mod Tiles
 pub mod Answers

@@ -6,7 +6,8 @@ use lib.ListN.{length, getD, length-set}
 use Rattle.grid.specs.Planes.{plane}
 use Rattle.grid.proofs.Places.{area}
 use Rattle.grid.proofs.Planes.{plane-read}
-use Rattle.grid.proofs.Filling.{since-refl, pass-clear, pass-old, begin-fits, begin-flood, closed-size, closed-filled, closed-passed, closed-since}
+use Rattle.grid.proofs.Filling.{since-refl}
+use Rattle.grid.proofs.Flooding.{pass-clear, pass-old, begin-fits, begin-flood, closed-size, closed-filled, closed-passed, closed-since}
 use Rattle.grid.proofs.label.begin.Statement.{statement}
 use Rattle.grid.proofs.label.begin.Tie as tie
 

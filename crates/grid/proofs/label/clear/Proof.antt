@@ -2,7 +2,7 @@
 use Prim.Native.Nat.{_-_, _≤_}
 use native.Mathlib.Omega.{arith}
 use Rattle.grid.specs.Filling.{Cleared}
-use Rattle.grid.proofs.Filling.{clear-start, clear-more, clear-all}
+use Rattle.grid.proofs.Flooding.{clear-start, clear-more, clear-all}
 use Rattle.grid.proofs.label.clear.Statement.{statement}
 use Rattle.grid.proofs.label.clear.Tie as tie
 

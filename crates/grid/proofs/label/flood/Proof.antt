@@ -4,7 +4,8 @@ use Prim.Native.Nat.{_-_, _*_, _<_}
 use native.Mathlib.Omega.{arith}
 use Rattle.grid.specs.Filling.{Flood, Since}
 use Rattle.grid.proofs.Places.{area}
-use Rattle.grid.proofs.Filling.{since-refl, since-trans, whole}
+use Rattle.grid.proofs.Filling.{since-refl, since-trans}
+use Rattle.grid.proofs.Flooding.{whole}
 use Rattle.grid.proofs.label.flood.Statement.{statement}
 use Rattle.grid.proofs.label.flood.Tie as tie
 

@@ -3,7 +3,8 @@ use Prim.Native.Nat.{_-_, _*_, _≤_}
 use native.Mathlib.Omega.{arith}
 use Rattle.grid.specs.Filling.{Sized, Filled, Shut, Passed, Kept}
 use Rattle.grid.proofs.Places.{area}
-use Rattle.grid.proofs.Filling.{kept-refl, kept-trans, cleared-kept, start-filled, start-passed, all-labelled}
+use Rattle.grid.proofs.Filling.{kept-refl, kept-trans}
+use Rattle.grid.proofs.Flooding.{cleared-kept, start-filled, start-passed, all-labelled}
 use Rattle.grid.proofs.label.label_planes.Statement.{statement}
 use Rattle.grid.proofs.label.label_planes.Tie as tie
 

@@ -12,7 +12,7 @@ use Rattle.grid.specs.Steps.{rowsOf, colsOf}
 use Rattle.grid.specs.Planes.{plane}
 use Rattle.grid.proofs.Places.{wide, row-in, col-in, area, step-few, offset-near}
 use Rattle.grid.proofs.Planes.{plane-read}
-use Rattle.grid.proofs.Filling.{Turn, turn-start, turn-on, turn-off}
+use Rattle.grid.proofs.Flooding.{Turn, turn-start, turn-on, turn-off}
 use Rattle.grid.proofs.label.visit_all.Statement.{statement}
 use Rattle.grid.proofs.label.visit_all.Tie as tie
 

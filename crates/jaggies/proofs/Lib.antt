@@ -1,0 +1,5 @@
+pub mod Signs
+pub mod Steps
+pub mod Cuts
+pub mod Rows
+pub mod Answers

@@ -1,0 +1,56 @@
+-- Marks of the ring, and the cells that take an index by them. Assumes nothing.
+use Prim.Native.Nat.{ℕ, _+_, _*_, _≤_, _<_}
+use mathlib.Core.Path.{_≡_, refl, sym, ap, _∙_}
+use mathlib.Core.Bool.{Bool, true, false, cond}
+use mathlib.Core.List.{List}
+use native.Mathlib.Omega.{arith}
+use borrow.Author.Tests.{eq-eqb, ne-eqb}
+use lib.Dec.{eqb}
+use lib.IntN.{ℤ, pos, negsuc}
+use lib.ListN.{length, getD, set, length-set}
+use Rattle.base.specs.Places.{table}
+use Rattle.base.specs.Outputs.{filled}
+use Rattle.base.proofs.Counting.{case}
+use Rattle.base.proofs.Fills.{filled-at, filled-none, filled-more}
+use Rattle.rules.specs.Sheet.{Sheet, area, sheetOf, over}
+use Rattle.rules.specs.Regions.{at}
+use Rattle.rules.specs.Outline.{ring, inked}
+use Rattle.outline.proofs.Places.{front-at}
+use Rattle.outline.proofs.Fillings.{filled-kept, filled-same, over-table}
+
+-- a marked cell takes the index i
+unfoldable pub painted : List ℤ → List ℕ → ℕ → ℕ → ℤ
+painted cells marks i p = cond (eqb (getD marks p 0) 0) (at cells p) (pos i)
+
+-- the cells below p are painted
+pub record Inks (l : List ℤ) (marks : List ℕ) (i p : ℕ) (m : List ℤ) : Type 0 where
+  pub cells : m ≡ filled p (painted l marks i) l
+  pub size : length m ≡ length l
+
+pub inks-start : (l : List ℤ) (marks : List ℕ) (i : ℕ) → Inks l marks i 0 l
+inks-start l marks i = record { cells = filled-none _ l; size = refl }
+
+module _ {l : List ℤ} {marks : List ℕ} {i p : ℕ} {m : List ℤ} (k : Inks l marks i p m) (h : p < length l) where
+  pub inks-hit : (x : ℤ) → (getD marks p 0 ≡ 0 → ⊥) → x ≡ pos i → Inks l marks i (p + 1) (set m p x)
+  unfolding painted
+  inks-hit x n e =
+      record {
+        cells = ap (λ (c : List ℤ). set c p x) (k .cells) ∙ filled-more p (painted l marks i) l x h (rw (ne-eqb (getD marks p 0) 0 n) e);
+        size = simp length-set (k .size);
+      }
+
+  pub inks-miss : getD marks p 0 ≡ 0 → Inks l marks i (p + 1) m
+  unfolding painted at
+  inks-miss z = record { cells = k .cells ∙ filled-kept (negsuc 0) p (painted l marks i) l h (rw (eq-eqb (getD marks p 0) 0 z)); size = k .size }
+
+-- marked by the ring, the painted cells are the inked sheet
+module _ (l : List ℤ) (h w i : ℕ) (marks : List ℕ) (room : h * w ≤ length l) where
+  same : (p : ℕ) → p < h * w → painted l (filled (h * w) (λ q. cond (ring (sheetOf l h w) q) 1 0) marks) i p ≡ cond (ring (sheetOf l h w) p) (pos i) (at (sheetOf l h w .cells) p)
+  unfolding painted sheetOf
+  same p lp =
+      rw (filled-at (h * w) (λ q. cond (ring (sheetOf l h w) q) 1 0) marks 0 p lp)
+      (case (ring (sheetOf l h w) p) (λ y. rw y) (λ z. rw z (sym (front-at (h * w) l p lp))))
+
+  pub inked-is : filled (h * w) (painted l (filled (h * w) (λ q. cond (ring (sheetOf l h w) q) 1 0) marks) i) l ≡ over (inked (sheetOf l h w) i .cells) l
+  unfolding inked area sheetOf
+  inked-is = filled-same (negsuc 0) (h * w) _ l _ room same ∙ sym (over-table (h * w) _ l)

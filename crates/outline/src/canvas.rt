@@ -1,0 +1,128 @@
+// The sheet that an outline is drawn on: whether an opaque cell touches an edge, and padding in place.
+ghost use mathlib.Core.Path.{_≡_};
+ghost use mathlib.Core.Bool.{cond};
+ghost use Prim.Native.Nat.{ℕ, _+_, _-_, _*_, _<_, _≤_};
+ghost use lib.IntN.{negsuc};
+ghost use lib.ListN.{length};
+ghost use Rattle.base.specs.Places.{any};
+ghost use Rattle.base.specs.Outputs.{filled};
+ghost use Rattle.rules.specs.Sheet.{sheetOf};
+ghost use Rattle.rules.specs.Regions.{at, opaque};
+ghost use Rattle.rules.specs.Outline.{touches, paddedAt};
+ghost use Rattle.outline.specs.Room.{Held, fromOne, inside};
+
+// A cell's row and column.
+pub struct Spot {
+    pub y: usize,
+    pub x: usize,
+}
+
+// The cell after s, in rows of w.
+pub fn after(s: Spot, w: usize) -> Spot
+    requires { ⌜ (s .y ≤ 514) × (s .x < w) × (w ≤ 514) ⌝ }
+    ensures { λ r. ⌜ (r .y * w + r .x ≡ s .y * w + s .x + 1) × (r .x < w) ⌝ }
+{
+    let next = s.x + 1;
+    if next == w {
+        return Spot { y: s.y + 1, x: 0 };
+    }
+    Spot { y: s.y, x: next }
+}
+
+// The cell before s, in rows of w.
+fn before(s: Spot, w: usize) -> Spot
+    requires { ⌜ (0 < s .y * w + s .x) × (s .x < w) ⌝ }
+    ensures { λ r. ⌜ (r .y * w + r .x + 1 ≡ s .y * w + s .x) × (r .x < w) ⌝ }
+{
+    if s.x == 0 {
+        return Spot { y: s.y - 1, x: w - 1 };
+    }
+    Spot { y: s.y, x: s.x - 1 }
+}
+
+// Whether the cell at p is opaque.
+pub fn solid(cells: &[i32], p: usize) -> bool
+    requires { ⌜ p < length (now cells) ⌝ }
+    ensures { λ r. ⌜ r ≡ opaque (now (cells .entry)) p ⌝ }
+{
+    cells[p] >= 0
+}
+
+// Whether one of some cells is opaque, from one on in equal steps.
+fn any_solid(cells: &[i32], from: usize, step: usize, count: usize) -> bool
+    requires { ⌜ ((i : ℕ) → i < count → from + i * step < length (now cells)) ⌝ }
+    ensures { λ r. ⌜ r ≡ any count (λ i. opaque (now (cells .entry)) (from + i * step)) ⌝ }
+{
+    for i in 0..count {
+        let p = from + i * step;
+        if solid(cells, p) {
+            return true;
+        }
+    }
+    false
+}
+
+// Whether an opaque cell touches an edge.
+pub fn touches_edge(cells: &[i32], h: usize, w: usize) -> bool
+    requires { ⌜ Held (now cells) h w ⌝ }
+    ensures { λ r. ⌜ r ≡ touches (sheetOf (now (cells .entry)) h w) ⌝ }
+{
+    let n = h * w;
+    if n == 0 {
+        return false;
+    }
+    if any_solid(cells, 0, 1, w) {
+        return true;
+    }
+    let last = n - w;
+    if any_solid(cells, last, 1, w) {
+        return true;
+    }
+    if any_solid(cells, 0, w, h) {
+        return true;
+    }
+    any_solid(cells, w - 1, w, h)
+}
+
+// Whether a is from 1 to len.
+fn from_one(len: usize, a: usize) -> bool
+    ensures { λ r. ⌜ r ≡ fromOne len a ⌝ }
+{
+    1 <= a && a <= len
+}
+
+// Whether row y and column x of the padded sheet lie on the sheet itself.
+fn inside(h: usize, w: usize, y: usize, x: usize) -> bool
+    ensures { λ r. ⌜ r ≡ inside h w y x ⌝ }
+{
+    from_one(h, y) && from_one(w, x)
+}
+
+// The cell in row y and column x of the sheet with one cell of -1 on every side.
+fn padded_cell(cells: &[i32], h: usize, w: usize, y: usize, x: usize) -> i32
+    requires { ⌜ Held (now cells) h w ⌝ }
+    ensures { λ r. ⌜ r ≡ cond (inside h w y x) (at (now (cells .entry)) ((y - 1) * w + (x - 1))) (negsuc 0) ⌝ }
+{
+    if inside(h, w, y, x) {
+        let from = (y - 1) * w + (x - 1);
+        cells[from]
+    } else {
+        -1
+    }
+}
+
+// Puts one cell of -1 on every side, in place: the last cell is written first, and what is still to be read lies below it.
+pub fn pad(cells: &mut [i32], h: usize, w: usize)
+    requires { ⌜ (h ≤ 512) × (w ≤ 512) × ((h + 2) * (w + 2) ≤ length (now cells)) ⌝ }
+    ensures { λ r. ⌜ now (cells .exit) ≡ filled ((h + 2) * (w + 2)) (paddedAt (sheetOf (now (cells .entry)) h w)) (now (cells .entry)) ⌝ }
+{
+    let wide = w + 2;
+    let mut s = Spot { y: h + 2, x: 0 };
+    let mut p = (h + 2) * wide;
+    while p > 0 {
+        p -= 1;
+        s = before(s, wide);
+        let c = padded_cell(cells, h, w, s.y, s.x);
+        cells[p] = c;
+    }
+}
