@@ -1,20 +1,21 @@
 -- What becomes of a cell by one corner, and by the first of several. Assumes nothing.
-use Prim.Native.Nat.{ℕ, zero, suc, _+_, _-_, _<_}
-use mathlib.Core.Path.{_≡_, refl, sym, ap, _∙_, subst}
+use Prim.Native.Nat.{ℕ, zero, suc, _-_, _<_}
+use mathlib.Core.Path.{_≡_, refl, sym, ap, _∙_}
+use mathlib.Core.Logic.{inl, inr}
 use mathlib.Core.Bool.{Bool, true, false, not, _&&_, cond, false≢true}
 use mathlib.Core.List.{List, [], _∷_}
 use native.Mathlib.Numerals.{add-one}
 use native.Mathlib.Omega.{arith}
 use lib.Dec.{eqb}
-use lib.IntN.{ℤ, pos, negsuc}
+use lib.IntN.{ℤ, pos, negsuc, negℤ}
 use lib.Signed.{nonNeg}
 use borrow.Author.Tests.{ne-eqb}
-use Rattle.base.proofs.Counting.{case, clash, left, yes-eqb}
+use Rattle.base.proofs.Counting.{case, clash, left, right, not-true, eqb-yes, yes-eqb}
 use Rattle.rules.specs.Sheet.{Sheet}
-use Rattle.rules.specs.Corners.{Corner, same, opposite, arms, around, goesOn, isCorner, trimmedBy}
+use Rattle.rules.specs.Corners.{Corner, one, minusOne, corners, same, finds, opposite, arms, around, goesOn, isCorner, trimmedBy}
 use Rattle.grid.specs.Planes.{paintOf, cellOf}
-use Rattle.jaggies.specs.Rows.{cut}
-use Rattle.jaggies.proofs.Steps.{same-paint}
+use Rattle.jaggies.specs.Rows.{Sign, way, found, cut, toward}
+use Rattle.jaggies.proofs.Steps.{same-paint, finds-paint}
 
 -- ---- paint and cells
 
@@ -32,6 +33,11 @@ pub clear : (z : ℤ) → 0 ≡ paintOf z → nonNeg z ≡ false
 unfolding paintOf
 clear (pos i) e = absurd (omega arith)
 clear (negsuc i) e = refl
+
+solid-paint : (z : ℤ) → nonNeg z ≡ true → 0 < paintOf z
+unfolding paintOf
+solid-paint (pos i) t = omega arith
+solid-paint (negsuc i) t = absurd (false≢true t)
 
 pub cell-paint : (z : ℤ) → nonNeg z ≡ true → cellOf (paintOf z) ≡ z
 unfolding paintOf cellOf
@@ -66,18 +72,149 @@ module _ (s : Sheet) (p : ℕ) (c : Corner) (a b : ℕ) (la : 0 < a) (e : b ≡ 
       let f′ : (arms s p c (cellOf a) && around s p c (opposite s p c) && goesOn s p c (cellOf a)) ≡ t = rw g at f in
       rw (o, d, isCorner, f′) (ap (λ (x : ℕ). cond t x 0) e)
 
--- ---- the first of several
+-- ---- which corner a cell can be
 
-module _ (s : Sheet) (p : ℕ) (c : Corner) (cs : List Corner) (a : ℤ) where
-  pub by-this : (v : ℕ) → v ≡ cut s p c a → (v ≡ 0 → ⊥) → v ≡ paintOf (trimmedBy s p (c ∷ cs) a)
-  unfolding cut trimmedBy
-  by-this v e n =
-      case (isCorner s p c a (opposite s p c)) (λ y. rw (y, trimmedBy) (rw y at e)) (λ z. absurd (n (rw z at e)))
+-- v, or w where v is 0
+unfoldable pub orElse : ℕ → ℕ → ℕ
+orElse zero w = w
+orElse (suc v) w = suc v
 
-  pub by-others : 0 ≡ cut s p c a → trimmedBy s p (c ∷ cs) a ≡ trimmedBy s p cs a
-  unfolding cut trimmedBy isCorner
-  by-others e =
-      case (isCorner s p c a (opposite s p c)) (λ y. clash (opaque y) (clear (opposite s p c) (rw y at e))) (λ z. rw (z, trimmedBy))
-    where
-      opaque : isCorner s p c a (opposite s p c) ≡ true → nonNeg (opposite s p c) ≡ true
-      opaque y = left _ _ (left _ _ (left _ _ (left _ _ y)))
+pub or-other : (v w : ℕ) → v ≡ 0 → w ≡ orElse v w
+unfolding orElse
+or-other v w e = rw e
+
+pub or-this : (v w : ℕ) → 0 < v → v ≡ orElse v w
+unfolding orElse
+or-this zero w l = absurd (omega arith)
+or-this (suc v) w l = refl
+
+pub toward-sign : (next a : ℕ) → Sign (toward next a)
+unfolding toward
+toward-sign next a = case (eqb next a) (λ y. rw y (inr refl)) (λ z. rw z (inl refl))
+
+-- at a corner of a cell of the paint a the arms have it, and the cells across from them do not
+pub record Sided (s : Sheet) (p : ℕ) (c : Corner) (a : ℕ) : Type 0 where
+  pub beside : paintOf (found s p (pos 0) (c .sx)) ≡ a
+  pub across : paintOf (found s p (pos 0) (negℤ (c .sx))) ≡ a → ⊥
+  pub along : paintOf (found s p (c .sy) (pos 0)) ≡ a
+  pub behind : paintOf (found s p (negℤ (c .sy)) (pos 0)) ≡ a → ⊥
+
+module _ (s : Sheet) (p : ℕ) (a : ℕ) (la : 0 < a) where
+  finds-yes : (dy dx : ℤ) → finds s p dy dx (cellOf a) ≡ true → paintOf (found s p dy dx) ≡ a
+  finds-yes dy dx e = eqb-yes (finds-paint s p dy dx a la ∙ e)
+
+  -- a step that finds another index does not find a
+  finds-other : (dy dx z : ℤ) → nonNeg z ≡ true → same z (cellOf a) ≡ false → finds s p dy dx z ≡ true → paintOf (found s p dy dx) ≡ a → ⊥
+  finds-other dy dx z o n e f =
+      let lz : 0 < paintOf z = solid-paint z o in
+      let g : finds s p dy dx (cellOf (paintOf z)) ≡ true = rw (cell-paint z o) e in
+      let q : paintOf (found s p dy dx) ≡ paintOf z = eqb-yes (finds-paint s p dy dx (paintOf z) lz ∙ g) in
+      clash (same-paint z a la ∙ yes-eqb (sym q ∙ f)) n
+
+  -- the parts of the rule that say so
+  record Parts (c : Corner) (o : ℤ) : Type 0 where
+    opaque : nonNeg o ≡ true
+    other : same o (cellOf a) ≡ false
+    arm : arms s p c (cellOf a) ≡ true
+    ring : around s p c o ≡ true
+
+  parts : (c : Corner) (o : ℤ) → isCorner s p c (cellOf a) o ≡ true → Parts c o
+  unfolding isCorner
+  parts c o y =
+      let two : (nonNeg o && not (same o (cellOf a))) ≡ true = left _ _ (left _ _ (left _ _ y)) in
+      let three : (nonNeg o && not (same o (cellOf a)) && arms s p c (cellOf a)) ≡ true = left _ _ (left _ _ y) in
+      let four : (nonNeg o && not (same o (cellOf a)) && arms s p c (cellOf a) && around s p c o) ≡ true = left _ _ y in
+      record {
+        opaque = left _ _ two;
+        other = not-true (right (nonNeg o) _ two);
+        arm = right (nonNeg o && not (same o (cellOf a))) _ three;
+        ring = right (nonNeg o && not (same o (cellOf a)) && arms s p c (cellOf a)) _ four;
+      }
+
+  corner-sided : (c : Corner) → isCorner s p c (cellOf a) (opposite s p c) ≡ true → Sided s p c a
+  unfolding arms around
+  corner-sided c y =
+      let o = opposite s p c in
+      let k : Parts c o = parts c o y in
+      let sy = negℤ (c .sy) in
+      let sx = negℤ (c .sx) in
+      let second : (finds s p sy sx o && finds s p sy (pos 0) o) ≡ true = left _ _ (left _ _ (left _ _ (left _ _ (k .ring)))) in
+      let fourth : (finds s p sy sx o && finds s p sy (pos 0) o && finds s p sy (c .sx) o && finds s p (pos 0) sx o) ≡ true = left _ _ (left _ _ (k .ring)) in
+      record {
+        beside = finds-yes (pos 0) (c .sx) (left _ _ (k .arm));
+        across = finds-other (pos 0) sx o (k .opaque) (k .other) (right (finds s p sy sx o && finds s p sy (pos 0) o && finds s p sy (c .sx) o) _ fourth);
+        along = finds-yes (c .sy) (pos 0) (right (finds s p (pos 0) (c .sx) (cellOf a)) _ (k .arm));
+        behind = finds-other sy (pos 0) o (k .opaque) (k .other) (right (finds s p sy sx o) _ second);
+      }
+
+  -- what tells a cell from a corner
+  pub no-corner : (c : Corner) → (Sided s p c a → ⊥) → cut s p c (cellOf a) ≡ 0
+  unfolding cut
+  no-corner c n = case (isCorner s p c (cellOf a) (opposite s p c)) (λ y. absurd (n (corner-sided c y))) (λ z. rw z)
+
+  -- the first of several corners decides
+  by-next : (c : Corner) (cs : List Corner) → paintOf (trimmedBy s p (c ∷ cs) (cellOf a)) ≡ orElse (cut s p c (cellOf a)) (paintOf (trimmedBy s p cs (cellOf a)))
+  unfolding trimmedBy cut orElse
+  by-next c cs =
+      case (isCorner s p c (cellOf a) (opposite s p c))
+      (λ y. rw (y, trimmedBy) (or-this (paintOf (opposite s p c)) _ (solid-paint (opposite s p c) (parts c (opposite s p c) y .opaque))))
+      (λ z. rw (z, trimmedBy))
+
+  by-none : paintOf (trimmedBy s p [] (cellOf a)) ≡ a
+  unfolding trimmedBy
+  by-none = sym (paint-cell a)
+
+  abbrev corner : ℤ → ℤ → ℕ
+  corner sy sx = cut s p (way sy sx) (cellOf a)
+
+  by-four : paintOf (trimmedBy s p corners (cellOf a)) ≡ orElse (corner minusOne minusOne) (orElse (corner minusOne one) (orElse (corner one minusOne) (orElse (corner one one) a)))
+  unfolding corners
+  by-four = rw (by-next, by-next, by-next, by-next, by-none)
+
+  -- by the paints of the four cells beside, above and below
+  module _ (l r u d : ℕ) (el : l ≡ paintOf (found s p (pos 0) minusOne)) (er : r ≡ paintOf (found s p (pos 0) one))
+      (eu : u ≡ paintOf (found s p minusOne (pos 0))) (ed : d ≡ paintOf (found s p one (pos 0))) where
+    not-left : (sy : ℤ) → (l ≡ a → r ≡ a) → corner sy minusOne ≡ 0
+    not-left sy f = no-corner (way sy minusOne) (λ k. k .across (sym er ∙ f (el ∙ k .beside)))
+
+    not-right : (sy : ℤ) → (r ≡ a → l ≡ a) → corner sy one ≡ 0
+    not-right sy f = no-corner (way sy one) (λ k. k .across (sym el ∙ f (er ∙ k .beside)))
+
+    not-up : (sx : ℤ) → (u ≡ a → d ≡ a) → corner minusOne sx ≡ 0
+    not-up sx f = no-corner (way minusOne sx) (λ k. k .behind (sym ed ∙ f (eu ∙ k .along)))
+
+    not-down : (sx : ℤ) → (d ≡ a → u ≡ a) → corner one sx ≡ 0
+    not-down sx f = no-corner (way one sx) (λ k. k .behind (sym eu ∙ f (ed ∙ k .along)))
+
+    -- alike on both sides: no corner
+    pub level : l ≡ r → a ≡ paintOf (trimmedBy s p corners (cellOf a))
+    unfolding orElse
+    level e =
+        let g : l ≡ a → r ≡ a = λ x. sym e ∙ x in
+        let f : r ≡ a → l ≡ a = λ x. e ∙ x in
+        sym (by-four ∙ rw (not-left minusOne g, not-right minusOne f, not-left one g, not-right one f))
+
+    pub upright : u ≡ d → a ≡ paintOf (trimmedBy s p corners (cellOf a))
+    unfolding orElse
+    upright e =
+        let g : u ≡ a → d ≡ a = λ x. sym e ∙ x in
+        let f : d ≡ a → u ≡ a = λ x. e ∙ x in
+        sym (by-four ∙ rw (not-up minusOne g, not-up one g, not-down minusOne f, not-down one f))
+
+    -- else the one corner that it can be
+    pub turned : orElse (corner (toward d a) (toward r a)) a ≡ paintOf (trimmedBy s p corners (cellOf a))
+    unfolding toward orElse
+    turned = sym (by-four ∙ pick)
+      where
+        pick : orElse (corner minusOne minusOne) (orElse (corner minusOne one) (orElse (corner one minusOne) (orElse (corner one one) a))) ≡ orElse (corner (toward d a) (toward r a)) a
+        pick = case (eqb d a)
+            (λ y. case (eqb r a)
+            (λ x. let e : r ≡ a = eqb-yes x in let f : d ≡ a = eqb-yes y in
+            rw (y, x, not-left minusOne (λ z. e), not-up one (λ z. f), not-left one (λ z. e)))
+            (λ x. let n : r ≡ a → l ≡ a = (λ z. clash (yes-eqb z) x) in let f : d ≡ a = eqb-yes y in
+            rw (y, x, not-up minusOne (λ z. f), not-right minusOne n, not-right one n)))
+            (λ y. let m : d ≡ a → u ≡ a = (λ z. clash (yes-eqb z) y) in case (eqb r a)
+            (λ x. let e : r ≡ a = eqb-yes x in
+            rw (y, x, not-left minusOne (λ z. e), not-left one (λ z. e), not-down one m))
+            (λ x. let n : r ≡ a → l ≡ a = (λ z. clash (yes-eqb z) x) in
+            rw (y, x, not-right minusOne n, not-down minusOne m, not-down one m)))

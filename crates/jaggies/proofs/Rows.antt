@@ -1,7 +1,7 @@
 -- The sheet written over row by row: what a spot of it becomes, and which rows the work area holds. Assumes nothing.
-use Prim.Native.Nat.{ℕ, zero, suc, _+_, _-_, _*_, _≤_, _<_}
+use Prim.Native.Nat.{ℕ, _+_, _-_, _*_, _≤_, _<_}
 use mathlib.Core.Path.{_≡_, refl, sym, ap, _∙_, subst}
-use mathlib.Core.Bool.{true, false, _||_, cond}
+use mathlib.Core.Bool.{true, _||_}
 use mathlib.Core.List.{List}
 use native.Mathlib.Nat.{zero-mul, add-mul, mul-le-mul-right}
 use native.Mathlib.Decide.{decLt}

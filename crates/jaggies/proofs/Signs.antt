@@ -1,7 +1,7 @@
 -- What signed numbers of the machine tell: cells and their paint, and the steps of a corner. Assumes nothing.
-use Prim.Native.Nat.{ℕ, suc, _+_, _≤_, _<_}
-use mathlib.Core.Path.{_≡_, refl, sym, ap, _∙_}
-use mathlib.Core.Logic.{_⊎_, inl, inr}
+use Prim.Native.Nat.{_+_, _≤_, _<_}
+use mathlib.Core.Path.{_≡_, refl}
+use mathlib.Core.Logic.{inl, inr}
 use mathlib.Core.Bool.{true, false, true≢false}
 use native.Mathlib.Omega.{arith}
 use borrow.Author.Tests.{le-ltb}
@@ -11,8 +11,7 @@ use mir.Syntax.{w32}
 use mir.Val.{SFits, Fits, ofZ, toZ}
 use mir.Facts.{toZ-ofZ, sfits-lit}
 use Rattle.base.proofs.Counting.{clash}
-use Rattle.grid.specs.Planes.{paintOf, cellOf}
-use Rattle.rules.specs.Corners.{one, minusOne}
+use Rattle.grid.specs.Planes.{paintOf}
 use Rattle.jaggies.specs.Rows.{most, Sign, Short}
 
 -- ---- paint

@@ -6,7 +6,7 @@ use mathlib.Core.Logic.{_⊎_}
 use mathlib.Core.Bool.{true, cond}
 use mathlib.Core.List.{List}
 use mathlib.Core.Option.{none, some}
-use lib.Dec.{ltb}
+use lib.Dec.{eqb, ltb}
 use lib.IntN.{ℤ, pos, negsuc}
 use lib.Signed.{leZ}
 use lib.ListN.{length, getD}
@@ -25,6 +25,7 @@ placeOf s = s .y * s .w + s .x
 abbrev pub endOf : Spot → ℕ
 endOf s = s .y * s .w + s .w
 
+-- row y and column x of a sheet of h rows of w cells
 abbrev pub spot : ℕ → ℕ → ℕ → ℕ → Spot
 spot h w y x = record { y = y; x = x; h = h; w = w }
 
@@ -87,6 +88,7 @@ unfoldable pub found : Sheet → ℕ → ℤ → ℤ → ℤ
 found s p dy dx =
     elim (stepTo (s .height) (s .width) (p / s .width) (p % s .width) dy dx) [ none ↦ minusOne | some q ↦ at (s .cells) q ]
 
+-- the corner that points so
 abbrev pub way : ℤ → ℤ → Corner
 way sy sx = record { sy = sy; sx = sx }
 
@@ -94,6 +96,7 @@ way sy sx = record { sy = sy; sx = sx }
 abbrev pub Sign : ℤ → Type 0
 Sign z = (z ≡ minusOne) ⊎ (z ≡ one)
 
+-- sy and sx point a corner
 pub record Way (sy sx : ℤ) : Type 0 where
   pub rows : Sign sy
   pub cols : Sign sx
@@ -101,3 +104,7 @@ pub record Way (sy sx : ℤ) : Type 0 where
 -- the paint that the cell a at p takes if it is the corner c; 0 if it is not
 unfoldable pub cut : Sheet → ℕ → Corner → ℤ → ℕ
 cut s p c a = cond (isCorner s p c a (opposite s p c)) (paintOf (opposite s p c)) 0
+
+-- the way from a cell of the paint a to an arm: on, if the next cell that way has the paint too, else back
+unfoldable pub toward : ℕ → ℕ → ℤ
+toward next a = cond (eqb next a) one minusOne

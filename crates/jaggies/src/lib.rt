@@ -12,7 +12,7 @@ ghost use Rattle.rules.specs.Sheet.{sheetOf, over};
 ghost use Rattle.rules.specs.Corners.{finds, arms, around, goesOn, corners, trimmedBy, trim};
 ghost use Rattle.rules.specs.Entries.{jaggiesAnswer, jaggiesCells};
 ghost use Rattle.grid.specs.Planes.{paintOf, cellOf};
-ghost use Rattle.jaggies.specs.Rows.{placeOf, endOf, spot, most, paintAt, Room, Held, Trimmed, Moved, Short, Way, way, found, Sees, cut};
+ghost use Rattle.jaggies.specs.Rows.{placeOf, endOf, spot, most, paintAt, Room, Held, Trimmed, Moved, Short, Way, way, found, Sees, cut, toward};
 
 // Row y and column x of a sheet of h rows of w cells.
 struct Spot {
@@ -131,29 +131,32 @@ fn cut(cells: &[i32], work: &[u32], at: Spot, sy: i32, sx: i32, a: u32) -> u32
     b
 }
 
-// What a spot of the paint a becomes, by the first corner that it is.
+// The way from a spot of the paint a to an arm of its corner: on, if the next cell that way has the paint too, else back.
+fn toward(next: u32, a: u32) -> i32
+    ensures { λ r. ⌜ r ≡ toward next a ⌝ }
+{
+    if next == a { 1 } else { -1 }
+}
+
+// What a spot of the paint a becomes. It can be one corner at most: at a corner one of the cells beside the spot, and one of those
+// above and below it, has its paint.
 fn trimmed(cells: &[i32], work: &[u32], at: Spot, a: u32) -> u32
     requires { ⌜ Room (now cells) (now work) at × (0 < a) × (a ≤ most) ⌝ }
     ensures { λ r. ⌜ Sees (now (cells .entry)) (now (work .entry)) at r (λ s p. paintOf (trimmedBy s p corners (cellOf a))) ⌝ }
     ensures { λ r. ⌜ (0 < r) × (r ≤ most) ⌝ }
 {
-    let above_left = cut(cells, work, at, -1, -1, a);
-    if above_left != 0 {
-        return above_left;
+    let left = look(cells, work, at, 0, -1);
+    let right = look(cells, work, at, 0, 1);
+    if left == right {
+        return a;
     }
-    let above_right = cut(cells, work, at, -1, 1, a);
-    if above_right != 0 {
-        return above_right;
+    let above = look(cells, work, at, -1, 0);
+    let below = look(cells, work, at, 1, 0);
+    if above == below {
+        return a;
     }
-    let below_left = cut(cells, work, at, 1, -1, a);
-    if below_left != 0 {
-        return below_left;
-    }
-    let below_right = cut(cells, work, at, 1, 1, a);
-    if below_right != 0 {
-        return below_right;
-    }
-    a
+    let to = cut(cells, work, at, toward(below, a), toward(right, a), a);
+    if to == 0 { a } else { to }
 }
 
 // One spot of the sheet.

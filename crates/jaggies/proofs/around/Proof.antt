@@ -1,6 +1,6 @@
 -- `around` meets its contract: it stops at the first of the six that differs. Assumes nothing.
 use mathlib.Core.Path.{_≡_, sym, _∙_}
-use mathlib.Core.Bool.{Bool, true, false, _&&_}
+use mathlib.Core.Bool.{Bool, true, _&&_}
 use mathlib.Core.List.{List}
 use borrow.Author.Tests.{not-true, not-false}
 use lib.IntN.{ℤ, pos, negℤ}

@@ -7,9 +7,6 @@ use mir.Facts.{toZ-ofZ}
 use Rattle.jaggies.proofs.Steps.{finds-paint}
 use Rattle.jaggies.proofs.finds.Statement.{statement}
 use Rattle.jaggies.proofs.finds.Tie as tie
-use Rattle.jaggies.proofs.finds.Reads as reads
-use Rattle.jaggies.proofs.finds.Lts as lts
-use Rattle.jaggies.proofs.look.Reads as look-reads
 
 look-requires : tie.Need-look-requires
 look-requires c κs = search needs

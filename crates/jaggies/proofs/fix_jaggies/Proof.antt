@@ -1,6 +1,4 @@
 -- `fix_jaggies` meets its contract: each refusal is the first row that applies, and past all rows the sheet is trimmed. Assumes nothing.
-use mathlib.Core.Path.{_≡_}
-use mathlib.Core.Option.{none}
 use native.Mathlib.Nat.{mul-le-mul}
 use native.Mathlib.Omega.{arith}
 use borrow.Author.Needs.{needs}

@@ -1,7 +1,7 @@
 -- `look` meets its contract: where its step leads, it reads what stood there. Assumes nothing.
 use Prim.Native.Nat.{_+_, _*_, _≤_, _<_}
 use mathlib.Core.Path.{_≡_, sym, ap, _∙_}
-use mathlib.Core.Option.{none, some}
+use mathlib.Core.Option.{some}
 use native.Mathlib.Omega.{arith}
 use borrow.Author.Needs.{needs}
 use mir.Facts.{toZ-ofZ}

@@ -1,5 +1,4 @@
 -- `was` meets its contract. Assumes nothing.
-use mathlib.Core.Path.{_∙_, ap}
 use borrow.Author.Needs.{needs}
 use borrow.Author.Tests.{lt-ltb, le-ltb}
 use mir.Facts.{toZ-ofZ}
