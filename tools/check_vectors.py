@@ -1,13 +1,17 @@
 #!/usr/bin/env python3
-"""Replays stored answers on the model: check_vectors.py ENTRY [FILE], FILE '-' or none: standard input.
+"""Replays stored answers on the model: check_vectors.py ENTRY [FILE], FILE '-': standard input, none: the entry's own file.
 
 Prints each case that differs, and how many cases were tried.
 """
 
+import glob
+import os
 import struct
 import sys
 
 import model
+
+ROOT = os.path.join(os.path.dirname(os.path.abspath(__file__)), "..")
 
 SPARE = {"bytes": 0x5A, "cells": 0x5A5A5A5A, "words": 0x5A5A5A5A, "reals": 0x5A5A5A5A5A5A5A5A}
 
@@ -31,6 +35,12 @@ ARGUMENTS = {
     "palette_distance_matrix": ["reals", "reals"],
     "hex_to_rgb8": ["bytes", "bytes"],
 }
+
+
+def stored(name):
+    """The file of an entry's stored answers: it stands beside the program that replays it."""
+    (path,) = glob.glob(os.path.join(ROOT, "crates/vectors_*/data", name + ".txt"))
+    return path
 
 
 def signed(n):
@@ -97,9 +107,9 @@ def replay(name, words):
     return None if case.place == len(case.numbers) else "numbers left over"
 
 
-def main(name, path="-"):
+def main(name, path=None):
     tried, differing = 0, 0
-    with (sys.stdin if path == "-" else open(path, encoding="ascii")) as file:
+    with (sys.stdin if path == "-" else open(path or stored(name), encoding="ascii")) as file:
         for line in file:
             count, *words = line.split()
             found = "wrong count" if int(count, 16) != len(words) else replay(name, words)

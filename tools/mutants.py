@@ -69,7 +69,7 @@ def noticed(entry, model):
     """How many stored answers of the entry the wrong model misses."""
     check_vectors.model = model
     count = 0
-    with open(os.path.join(HERE, "../vectors", entry + ".txt"), encoding="ascii") as file:
+    with open(check_vectors.stored(entry), encoding="ascii") as file:
         for line in file:
             try:
                 count += check_vectors.replay(entry, line.split()[1:]) is not None

@@ -3,7 +3,7 @@
 //!     compare check [COUNT]          every comparison; COUNT random calls of each entry
 //!     compare bench                  times of the port and of the Rust, in one process
 //!     compare differences            what the Rust does where the specification refuses
-//!     compare vectors FOLDER         writes the stored answers
+//!     compare vectors CRATES         writes the stored answers, each over its file below CRATES
 //!     compare cases ENTRY COUNT SEED [SIDE]
 //!                                    prints random cases with the reference's answers; with SIDE
 //!                                    the sheets are SIDE x SIDE
@@ -31,7 +31,7 @@ fn main() {
         ["check", count] => std::process::exit(check::all(number(count) as usize).min(1) as i32),
         ["bench"] => bench::all(),
         ["differences"] => differences::all(),
-        ["vectors", folder] => vectors::write_all(folder),
+        ["vectors", crates] => vectors::write_all(crates),
         ["cases", entry, count, seed, side @ ..] => {
             let entry = ENTRIES.iter().find(|e| e.1 == *entry).expect("an entry").0;
             let side = side.first().map(|text| number(text) as usize);
@@ -39,7 +39,7 @@ fn main() {
         }
         _ => {
             eprintln!(
-                "usage: compare check [COUNT] | bench | differences | vectors FOLDER | cases ENTRY COUNT SEED [SIDE]"
+                "usage: compare check [COUNT] | bench | differences | vectors CRATES | cases ENTRY COUNT SEED [SIDE]"
             );
             std::process::exit(2);
         }

@@ -5,6 +5,7 @@ use crate::cases::{
     named, pairs, random, random_sized, singles, sound, Rng, SPARE_BYTE, SPARE_CELL, SPARE_REAL, SPARE_WORD,
 };
 use std::io::Write;
+use std::path::PathBuf;
 
 fn spare(arg: &Arg) -> u64 {
     match arg {
@@ -66,13 +67,22 @@ fn stored(entry: Entry) -> Vec<Call> {
     calls
 }
 
-/// Writes one file for each entry.
-pub fn write_all(folder: &str) {
+/// The file of an entry's stored answers: it stands beside the program that replays it.
+fn place(crates: &str, name: &str) -> PathBuf {
+    std::fs::read_dir(crates)
+        .expect("the crates")
+        .map(|entry| entry.expect("a crate").path().join(format!("data/{name}.txt")))
+        .find(|path| path.exists())
+        .expect("a file of stored answers")
+}
+
+/// Writes one file for each entry, over the one that is there.
+pub fn write_all(crates: &str) {
     for (entry, name) in ENTRIES {
         let calls = stored(entry);
         let text: String = calls.iter().map(line).collect();
         println!("{name}: {} cases, {} bytes", calls.len(), text.len());
-        std::fs::write(format!("{folder}/{name}.txt"), text).expect("a vector file");
+        std::fs::write(place(crates, name), text).expect("a file of stored answers");
     }
 }
 

@@ -1,0 +1,107 @@
+// Whether a call gave what is stored, list by list, and what is printed of that.
+ghost use Prim.Native.Nat.{_≤_, _<_};
+use crate::lists::same_bytes;
+use crate::lists::same_cells;
+use crate::lists::same_doubles;
+use crate::lists::same_words;
+use crate::stream::After;
+use crate::stream::Stored;
+use crate::stream::number;
+use crate::stream::past;
+use base::Filling;
+use libc::STDOUT_FILENO;
+
+// The place up to which a case was read, and whether all was the same so far.
+pub struct Verdict {
+    pub at: usize,
+    pub same: bool,
+}
+
+// An answer's number, 0 if nothing is refused.
+pub fn filling_number(answer: Filling) -> u8 {
+    match answer {
+        Filling::Done => 0,
+        Filling::Refused(n) => n,
+    }
+}
+
+// Whether a call's answer is the number at a place: 0, or that of a refusal.
+pub fn answered(numbers: &[u64], at: usize, answer: u8) -> Verdict {
+    Verdict {
+        at: past(at, 1),
+        same: number(numbers, at) == (answer as u64),
+    }
+}
+
+impl Verdict {
+    // The list that was stored as s, after the call.
+    pub fn bytes(self, numbers: &[u64], s: Stored, got: &[u8]) -> Verdict {
+        let a = After::at(numbers, self.at, s);
+        Verdict {
+            at: a.end(),
+            same: self.same && same_bytes(numbers, a, got),
+        }
+    }
+
+    pub fn words(self, numbers: &[u64], s: Stored, got: &[u32]) -> Verdict {
+        let a = After::at(numbers, self.at, s);
+        Verdict {
+            at: a.end(),
+            same: self.same && same_words(numbers, a, got),
+        }
+    }
+
+    pub fn cells(self, numbers: &[u64], s: Stored, got: &[i32]) -> Verdict {
+        let a = After::at(numbers, self.at, s);
+        Verdict {
+            at: a.end(),
+            same: self.same && same_cells(numbers, a, got),
+        }
+    }
+
+    pub fn doubles(self, numbers: &[u64], s: Stored, got: &[f64]) -> Verdict {
+        let a = After::at(numbers, self.at, s);
+        Verdict {
+            at: a.end(),
+            same: self.same && same_doubles(numbers, a, got),
+        }
+    }
+}
+
+// The place past the case that begins at a place below count, at most count.
+pub fn case_end(numbers: &[u64], at: usize, count: usize) -> usize
+    requires { ⌜ at < count ⌝ }
+    ensures { λ r. ⌜ (at < r) × (r ≤ count) ⌝ }
+{
+    let next = at + 1;
+    let length = number(numbers, at) as usize;
+    if length < count - next {
+        next + length
+    } else {
+        count
+    }
+}
+
+// Prints a case that differs, or whose numbers are not just those that its entry takes. The answer is 1 for such a case, 0 for any other.
+pub fn case_told(name: &[u8], case: u64, v: Verdict, end: usize) -> u64
+    ensures { λ r. ⌜ r ≤ 1 ⌝ }
+{
+    if v.same && v.at == end {
+        return 0;
+    }
+    io::write_all(STDOUT_FILENO, name);
+    io::write_all(STDOUT_FILENO, b": case ");
+    io::print_decimal(STDOUT_FILENO, case);
+    io::write_all(STDOUT_FILENO, b" differs\n");
+    1
+}
+
+// Prints how many cases a file has, and how many of them differ.
+pub fn total_told(name: &[u8], cases: u64, differing: u64) {
+    io::write_all(STDOUT_FILENO, name);
+    io::write_all(STDOUT_FILENO, b": ");
+    io::print_decimal(STDOUT_FILENO, cases);
+    io::write_all(STDOUT_FILENO, b" cases, ");
+    io::print_decimal(STDOUT_FILENO, differing);
+    io::write_all(STDOUT_FILENO, b" differ\n");
+}
