@@ -1,6 +1,6 @@
 -- Refusals row by row, as code meets them: what it tells that a row applies, and that it does not. Assumes nothing.
 use Prim.Native.Nat.{ℕ, _≤_}
-use mathlib.Core.Path.{_≡_, refl, sym, ap, _∙_}
+use mathlib.Core.Path.{_≡_, refl, ap}
 use mathlib.Core.Bool.{Bool, true, false, not, _||_, cond}
 use mathlib.Core.List.{List, [], _∷_, _++_}
 use mathlib.Core.Option.{Option, none, some}
@@ -9,7 +9,6 @@ use borrow.Author.Tests.{ltb-false, eqb-true, not-false}
 use lib.Dec.{ltb, eqb}
 use lib.ListN.{length}
 use Rattle.base.specs.Refusals.{Row, refusal, filling, unless}
-use Rattle.base.specs.declared.Filling.{Filling}
 use Rattle.base.specs.declared.Filling.the-variants.{Done, Refused}
 use Rattle.rules.specs.Palette.{Palette}
 use Rattle.rules.specs.Rows.{tooLarge, badPalette}

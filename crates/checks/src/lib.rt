@@ -47,6 +47,13 @@ pub fn between(lo: f64, hi: f64, x: f64) -> bool
     lo <= x && x <= hi
 }
 
+// Row 6: whether a colour limit is from 0 to 1024, and no NaN.
+pub fn limit_in_range(x: f64) -> bool
+    ensures { λ r. ⌜ r ≡ Rattle.rules.specs.Palette.between 0 1024 x ⌝ }
+{
+    between(0.0, 1024.0, x)
+}
+
 // Row 6: the darkening of an outline is NaN or not from 0 to 1.
 pub fn bad_darkening(outline: Outline) -> bool
     ensures { λ r. ⌜ r ≡ badDarkening outline ⌝ }

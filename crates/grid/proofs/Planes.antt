@@ -48,7 +48,7 @@ module _ (n j p i : ℕ) (work : List ℕ) (v : ℕ) (e : i ≡ j * n + p) where
 
 -- ---- paint
 
-paint-cell : (x : ℕ) → paintOf (cellOf x) ≡ x
+pub paint-cell : (x : ℕ) → paintOf (cellOf x) ≡ x
 unfolding paintOf cellOf
 paint-cell zero = refl
 paint-cell (suc i) = add-one i
@@ -93,7 +93,7 @@ opaque-paint n work p l = nonneg-paint (at (cellsOf n work) p) ∙ ap (ltb 0) (c
 
 -- sheets that are painted alike have the same regions
 module _ (a b : List ℤ) (same : (p : ℕ) → paintOf (at a p) ≡ paintOf (at b p)) where
-  same-opaque : opaque a ≡ opaque b
+  pub same-opaque : opaque a ≡ opaque b
   unfolding opaque
   same-opaque = fun-ext (λ p. nonneg-paint (at a p) ∙ ap (ltb 0) (same p) ∙ sym (nonneg-paint (at b p)))
 
@@ -103,7 +103,7 @@ module _ (a b : List ℤ) (same : (p : ℕ) → paintOf (at a p) ≡ paintOf (at
       fun-ext (λ p. fun-ext (λ q. ap (λ (t : Bool). adj p q && t)
       (alike-paint (at a p) (at a q) ∙ ap₂ (λ (x y : ℕ). ltb 0 x && eqb x y) (same p) (same q) ∙ sym (alike-paint (at b p) (at b q)))))
 
-  same-roots : (n : ℕ) (adj : ℕ → ℕ → Bool) → roots n adj a ≡ roots n adj b
+  pub same-roots : (n : ℕ) (adj : ℕ → ℕ → Bool) → roots n adj a ≡ roots n adj b
   unfolding roots spread
   same-roots n adj =
       ap (λ (l : ℕ → ℕ → Bool). times n (λ r. table n (λ p. least n (l p) (held r) (held r p))) (table n (λ p. p))) (same-link adj)

@@ -1,6 +1,6 @@
 -- The ways in which the outline's colour gets an entry. Assumes nothing.
 use Prim.Native.Nat.{ℕ, _+_, _≤_, _<_}
-use mathlib.Core.Path.{_≡_, refl, sym, ap, _∙_}
+use mathlib.Core.Path.{_≡_, refl, ap, _∙_}
 use mathlib.Core.Bool.{Bool, true, false, cond}
 use mathlib.Core.List.{List}
 use mathlib.Core.Option.{Option, none, some}
@@ -13,10 +13,9 @@ use Rattle.color.specs.declared.Lab.{Lab}
 use Rattle.color.specs.Lab.{labToRgb8}
 use Rattle.rules.specs.Palette.{Palette, colour, recoloured, firstWhere}
 use Rattle.rules.specs.Outline.{nearestEntry, sameRgb8, reuse, append, replace, choice, chosenIndex, chosenPalette}
-use Rattle.outline.specs.declared.line.Found.{Found}
 use Rattle.outline.specs.declared.line.Found.the-variants.{Nowhere, At}
-use Rattle.outline.proofs.Least.{nearest-below, where-below}
 use Rattle.outline.specs.Line.{found, Chose}
+use Rattle.outline.proofs.Least.{nearest-below, where-below}
 
 found-at : (o : Option ℕ) (i : ℕ) → found o ≡ At i → o ≡ some i
 unfolding found

@@ -1,17 +1,16 @@
 -- An outline, whole: from the sheet that is drawn on to what the entry answers and leaves. Assumes nothing.
 use Prim.Native.Nat.{ℕ, _+_, _*_, _≤_}
-use mathlib.Core.Path.{_≡_, refl, sym, ap, _∙_, subst}
+use mathlib.Core.Path.{_≡_, refl, sym, ap, _∙_}
 use mathlib.Core.Bool.{Bool, true, false, not, _&&_, false≢true}
 use mathlib.Core.List.{List, _++_}
-use mathlib.Core.Option.{Option, none, some}
+use mathlib.Core.Option.{none, some}
 use lib.IntN.{ℤ}
 use lib.Ieee.{Float}
 use lib.ListN.{length, take, drop, take-append-drop}
 use lib.Seq.{length-take-le}
-use Rattle.base.specs.Places.{table}
 use Rattle.base.specs.Outputs.{filled}
 use Rattle.base.specs.Refusals.{unless}
-use Rattle.base.proofs.Counting.{case, left, table-length}
+use Rattle.base.proofs.Counting.{case, table-length}
 use Rattle.color.specs.declared.Lab.{Lab}
 use Rattle.rules.specs.declared.Outline.{Outline}
 use Rattle.rules.specs.declared.Outlining.{Outlining}
@@ -19,8 +18,8 @@ use Rattle.rules.specs.declared.Outlining.the-variants.{Drawn, Refused}
 use Rattle.rules.specs.declared.LineIndex.the-variants.{Nothing, Entry}
 use Rattle.rules.specs.declared.Facts.{Facts}
 use Rattle.rules.specs.Sheet.{Sheet, area, sheetOf, over}
-use Rattle.rules.specs.Palette.{Palette, paletteOf}
-use Rattle.rules.specs.Outline.{asked, touches, pads, paddedAt, padded, canvas, hasRing, inked, lineColour, choice, chosenIndex, chosenPalette, Outlined, drawn, outline}
+use Rattle.rules.specs.Palette.{Palette}
+use Rattle.rules.specs.Outline.{asked, touches, pads, paddedAt, padded, canvas, hasRing, inked, lineColour, choice, Outlined, drawn, outline}
 use Rattle.rules.specs.Entries.{factsOf, outlineRefusal, outlineAnswer, outlineCells, outlinePalette}
 use Rattle.outline.specs.Drawing.{traced, Drew}
 use Rattle.outline.specs.Line.{Chose}
@@ -65,50 +64,43 @@ padded-length : (clipped fixed : Bool) (how : Outline) (s : Sheet) (palette : Pa
 unfolding padded area
 padded-length clipped fixed how s palette = traced-length clipped fixed how (padded s) palette (table-length ((s .height + 2) * (s .width + 2)) (paddedAt s))
 
--- padded, the outline is not clipped; else it is if an edge is touched
-unclipped : (t : Bool) → (t && false) ≡ false
-unclipped true = refl
-unclipped false = refl
-
-as-touched : (a k t : Bool) → k ≡ true → (a && k && t) ≡ false → (t && not a) ≡ t
-as-touched true true t y z = unclipped t ∙ sym z
-as-touched true false t y z = absurd (false≢true y)
-as-touched false k true y z = refl
-as-touched false k false y z = refl
-
--- an outline is that of the sheet, padded if padding applies
-outline-is : (allowed fixed : Bool) (how : Outline) (s : Sheet) (palette : Palette)
-    → outline allowed fixed how s palette ≡ traced (touches s && not allowed) fixed how (canvas (pads allowed how s) s) palette
-unfolding outline traced
-outline-is allowed fixed how s palette = refl
-
-module _ (allowed fixed : Bool) (how : Outline) (l : List ℤ) (h w : ℕ) (palette : Palette) {facts : Facts} {out : List ℤ} {lab : List Float} where
+module _ (fixed : Bool) (how : Outline) (l : List ℤ) (h w : ℕ) (palette : Palette) (padding touched : Bool) {facts : Facts} {out : List ℤ} {lab : List Float} where
   -- drawn on the padded sheet
-  pub drew-padded : (allowed && asked how && touches (sheetOf l h w)) ≡ true
-      → (m : List ℤ) → m ≡ filled ((h + 2) * (w + 2)) (paddedAt (sheetOf l h w)) l → Drew (traced false fixed how (sheetOf m (h + 2) (w + 2)) palette) m facts out lab
-      → Drew (outline allowed fixed how (sheetOf l h w) palette) l facts out lab
-  unfolding canvas pads sheetOf
+  pub drew-padded : padding ≡ true → (m : List ℤ) → m ≡ filled ((h + 2) * (w + 2)) (paddedAt (sheetOf l h w)) l
+      → Drew (traced false fixed how (sheetOf m (h + 2) (w + 2)) palette) m facts out lab
+      → Drew (traced (not padding && touched) fixed how (canvas padding (sheetOf l h w)) palette) l facts out lab
+  unfolding canvas sheetOf
   drew-padded e m q d =
       let n = (h + 2) * (w + 2) in
       let s = sheetOf l h w in
-      let a : allowed ≡ true = left allowed (asked how) (left (allowed && asked how) (touches s) e) in
-      let o : outline allowed fixed how s palette ≡ traced false fixed how (padded s) palette = outline-is allowed fixed how s palette ∙ rw (e, a) (ap (λ (b : Bool). traced b fixed how (padded s) palette) (unclipped (touches s))) in
-      let c : traced false fixed how (sheetOf m (h + 2) (w + 2)) palette ≡ traced false fixed how (padded s) palette = ap (λ (t : Sheet). traced false fixed how t palette) (ap (λ (k : List ℤ). sheetOf k (h + 2) (w + 2)) q ∙ sheet-padded l h w) in
-      rw o (record {
+      let c : traced false fixed how (sheetOf m (h + 2) (w + 2)) palette ≡ traced false fixed how (padded s) palette =
+      ap (λ (t : Sheet). traced false fixed how t palette) (ap (λ (k : List ℤ). sheetOf k (h + 2) (w + 2)) q ∙ sheet-padded l h w) in
+      rw e (record {
         told = d .told ∙ ap (λ (t : Outlined). factsOf (t .sheet) (t .palette) (t .index) (t .clipped)) c;
-        cells = d .cells ∙ ap (λ (t : Outlined). over (t .sheet .cells) m) c ∙ ap (over (traced false fixed how (padded s) palette .sheet .cells)) q ∙ over-filled n (paddedAt s) l _ (padded-length false fixed how s palette);
+        cells = d .cells ∙ ap (λ (t : Outlined). over (t .sheet .cells) m) c ∙ ap (over (traced false fixed how (padded s) palette .sheet .cells)) q
+            ∙ over-filled n (paddedAt s) l _ (padded-length false fixed how s palette);
         doubles = d .doubles ∙ ap (λ (t : Outlined). t .palette .lab) c;
       })
 
   -- drawn on the sheet itself
-  pub drew-plain : asked how ≡ true → (allowed && asked how && touches (sheetOf l h w)) ≡ false
-      → (t : Bool) → t ≡ touches (sheetOf l h w) → Drew (traced t fixed how (sheetOf l h w) palette) l facts out lab
-      → Drew (outline allowed fixed how (sheetOf l h w) palette) l facts out lab
-  unfolding canvas pads
-  drew-plain k e t q d =
-      let s = sheetOf l h w in
-      let o : outline allowed fixed how s palette ≡ traced t fixed how s palette = outline-is allowed fixed how s palette ∙ rw e (ap (λ (b : Bool). traced b fixed how s palette) (as-touched allowed (asked how) (touches s) k e ∙ sym q)) in
-      rw o d
+  pub drew-plain : padding ≡ false → Drew (traced touched fixed how (sheetOf l h w) palette) l facts out lab
+      → Drew (traced (not padding && touched) fixed how (canvas padding (sheetOf l h w)) palette) l facts out lab
+  unfolding canvas
+  drew-plain e d = rw e d
+
+-- clipped: an edge is touched and padding was not allowed. Where an outline is asked for, that is: touched and not padded
+as-clipped : (a k t : Bool) → k ≡ true → (not (a && k && t) && t) ≡ (t && not a)
+as-clipped true true true y = refl
+as-clipped true true false y = refl
+as-clipped true false t y = absurd (false≢true y)
+as-clipped false k true y = refl
+as-clipped false k false y = refl
+
+pub outline-is : (allowed fixed : Bool) (how : Outline) (s : Sheet) (palette : Palette) → asked how ≡ true → (padding touched : Bool) → padding ≡ pads allowed how s → touched ≡ touches s
+    → traced (not padding && touched) fixed how (canvas padding s) palette ≡ outline allowed fixed how s palette
+unfolding outline traced pads
+outline-is allowed fixed how s palette k padding touched p t =
+    rw (p, t) (ap (λ (b : Bool). traced b fixed how (canvas (allowed && asked how && touches s) s) palette) (as-clipped allowed (asked how) (touches s) k))
 
 -- ---- what the entry answers and leaves
 
@@ -122,6 +114,6 @@ module _ (l : List ℤ) (h w : ℕ) (palette : Palette) (how : Outline) (allowed
   met-refused n e = rw e (refl, (refl, refl))
 
   pub met-drawn : {facts : Facts} {out : List ℤ} {lab : List Float} → outlineRefusal l h w palette how allowed fixed work ≡ none
-      → Drew (outline allowed fixed how (sheetOf l h w) palette) l facts out lab → Met (Drawn facts) out lab
+      → (o : Outlined) → o ≡ outline allowed fixed how (sheetOf l h w) palette → Drew o l facts out lab → Met (Drawn facts) out lab
   unfolding outlineAnswer outlineCells outlinePalette unless
-  met-drawn e d = rw e (ap Drawn (d .told), (d .cells, d .doubles))
+  met-drawn e o q d = rw (e, sym q) (ap Drawn (d .told), (d .cells, d .doubles))

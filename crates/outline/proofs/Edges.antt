@@ -2,19 +2,19 @@
 use Prim.Native.Nat.{ℕ, _+_, _-_, _*_, _/_, _%_, _≤_, _<_}
 use mathlib.Core.Path.{_≡_, refl, sym, ap, _∙_, subst}
 use mathlib.Core.Logic.{⊎-elim}
-use mathlib.Core.Bool.{Bool, true, false, _&&_, _||_}
+use mathlib.Core.Bool.{Bool, true, false, _||_}
 use mathlib.Core.List.{List}
-use native.Mathlib.Nat.{mul-one, zero-mul}
+use native.Mathlib.Nat.{div-add-mod', mul-one, zero-mul}
 use native.Mathlib.Omega.{arith}
 use lib.Dec.{eqb}
 use lib.IntN.{ℤ}
-use lib.ListN.{length}
 use Rattle.base.specs.Places.{any}
-use Rattle.base.proofs.Counting.{case, clash, both, left, right, either, or-left, or-right, eqb-yes, yes-eqb, any-yes, yes-any, any-no, same-test}
+use Rattle.base.proofs.Counting.{clash, both, left, right, either, or-left, or-right, eqb-yes, yes-eqb, any-yes, yes-any, any-no, same-test}
 use Rattle.rules.specs.Sheet.{Sheet, area, sheetOf}
 use Rattle.rules.specs.Regions.{opaque}
 use Rattle.rules.specs.Outline.{onEdge, touches}
-use Rattle.outline.proofs.Places.{wide, row-in, col-in, row-of, col-of, place-in, row-back, some-row, spelled, front}
+use Rattle.grid.proofs.Places.{wide, row-in, col-in, row-of, col-of, place-in}
+use Rattle.outline.proofs.Places.{row-back, some-row, front}
 
 -- the cell in row y and column x of a sheet of h rows of w cells lies on an edge
 pub data Edge (h w y x : ℕ) : Type 0 where
@@ -43,7 +43,7 @@ touch-yes s y x ly lx e o =
     let w = s .width in
     yes-any _ _ (y * w + x) (place-in (s .height) w y x ly lx)
     (both o (edge-on s (y * w + x) (subst (λ (i : ℕ). Edge (s .height) w i ((y * w + x) % w)) (sym (row-of w y x lx))
-        (subst (λ (j : ℕ). Edge (s .height) w y j) (sym (col-of w y x lx)) e))))
+    (subst (λ (j : ℕ). Edge (s .height) w y j) (sym (col-of w y x lx)) e))))
 
 -- such a cell is there, if an edge is touched
 pub record Touching (s : Sheet) : Type 0 where
@@ -66,7 +66,7 @@ touching s e =
       in-row = row-in (s .height) w p (r .1);
       in-col = col-in (s .height) w p (r .1);
       edge = on-edge s p (right (opaque (s .cells) p) _ (r .2));
-      solid = subst (λ (i : ℕ). opaque (s .cells) i ≡ true) (sym (spelled w p)) (left _ (onEdge s p) (r .2));
+      solid = subst (λ (i : ℕ). opaque (s .cells) i ≡ true) (sym (div-add-mod' p w)) (left _ (onEdge s p) (r .2));
     }
 
 -- ---- the four lines of cells along the edges

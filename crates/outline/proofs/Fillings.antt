@@ -1,8 +1,8 @@
 -- More laws of lists filled from the front: filled from the last place down, places left as they are, and a sheet at the front. Assumes nothing.
-use Prim.Native.Nat.{ℕ, _+_, _*_, _≤_, _<_}
-use mathlib.Core.Path.{_≡_, refl, sym, ap, _∙_, subst}
+use Prim.Native.Nat.{ℕ, _+_, _≤_, _<_}
+use mathlib.Core.Path.{_≡_, refl, sym, ap, _∙_}
 use mathlib.Core.List.{List, _++_}
-use native.Mathlib.Decide.{decLt, ℕ-discrete}
+use native.Mathlib.Decide.{ℕ-discrete}
 use native.Mathlib.Omega.{arith}
 use lib.IntN.{ℤ}
 use lib.ListN.{length, getD, set, take, drop, length-set}
@@ -11,7 +11,7 @@ use Rattle.base.specs.Places.{table}
 use Rattle.base.specs.Outputs.{filled}
 use Rattle.base.proofs.Counting.{table-length}
 use Rattle.base.proofs.Fills.{filled-at, filled-past, filled-length, filled-is}
-use Rattle.rules.specs.Sheet.{Sheet, sheetOf, over}
+use Rattle.rules.specs.Sheet.{over}
 
 -- the places from p to n - 1 of l hold f, in m, and all others what they held
 pub record Moving {A : Type 0} (d : A) (n p : ℕ) (f : ℕ → A) (l m : List A) : Type 0 where

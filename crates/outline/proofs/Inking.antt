@@ -1,18 +1,16 @@
 -- Marks of the ring, and the cells that take an index by them. Assumes nothing.
 use Prim.Native.Nat.{ℕ, _+_, _*_, _≤_, _<_}
 use mathlib.Core.Path.{_≡_, refl, sym, ap, _∙_}
-use mathlib.Core.Bool.{Bool, true, false, cond}
+use mathlib.Core.Bool.{cond}
 use mathlib.Core.List.{List}
-use native.Mathlib.Omega.{arith}
 use borrow.Author.Tests.{eq-eqb, ne-eqb}
 use lib.Dec.{eqb}
 use lib.IntN.{ℤ, pos, negsuc}
 use lib.ListN.{length, getD, set, length-set}
-use Rattle.base.specs.Places.{table}
 use Rattle.base.specs.Outputs.{filled}
 use Rattle.base.proofs.Counting.{case}
 use Rattle.base.proofs.Fills.{filled-at, filled-none, filled-more}
-use Rattle.rules.specs.Sheet.{Sheet, area, sheetOf, over}
+use Rattle.rules.specs.Sheet.{area, sheetOf, over}
 use Rattle.rules.specs.Regions.{at}
 use Rattle.rules.specs.Outline.{ring, inked}
 use Rattle.outline.proofs.Places.{front-at}

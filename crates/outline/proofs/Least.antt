@@ -1,21 +1,20 @@
 -- Scans of the entries of a palette: for the least value, and for the first entry that passes a test. Assumes nothing.
 use Prim.Native.Nat.{ℕ, zero, suc, _+_, _-_, _≤_, _<_}
-use mathlib.Core.Path.{_≡_, refl, sym, ap, _∙_, subst}
+use mathlib.Core.Path.{_≡_, refl, ap, _∙_, subst}
 use mathlib.Core.Bool.{Bool, true, false, cond}
 use mathlib.Core.Option.{Option, none, some}
 use native.Mathlib.Nat.{le-step, lt-of-lt-of-le, zero-add, suc-add}
 use native.Mathlib.Numerals.{add-one}
-use native.Mathlib.Decide.{ℕ-discrete}
 use native.Mathlib.Omega.{arith}
 use lib.Dec.{lit<}
 use lib.Ieee.{Float, lt}
 use Rattle.base.proofs.Counting.{case}
+use Rattle.color.specs.declared.Lab.{Lab}
 use Rattle.rules.specs.Palette.{Palette, firstLeast, firstWhere}
 use Rattle.rules.specs.Outline.{darkest, nearestEntry}
-use Rattle.color.specs.declared.Lab.{Lab}
 use Rattle.outline.specs.declared.line.Least.{Least}
 use Rattle.outline.specs.declared.line.Least.the-variants.{Nothing, At}
-use Rattle.outline.specs.Line.{lowered, held, placed, found}
+use Rattle.outline.specs.Line.{lowered, held, placed}
 
 step : (v : ℕ → Float) (i b : ℕ) (l : Bool) → cond l (At i (v i)) (At b (v b)) ≡ held v (some (cond l i b))
 unfolding held

@@ -1,7 +1,6 @@
 -- Padding: what the padded sheet holds, that it can be written from the last cell down, and that it has a ring. Assumes nothing.
 use Prim.Native.Nat.{ℕ, _+_, _-_, _*_, _≤_, _<_}
 use mathlib.Core.Path.{_≡_, refl, sym, ap, _∙_, subst}
-use mathlib.Core.Logic.{_⊎_, inl, inr, ⊎-elim}
 use mathlib.Core.Bool.{Bool, true, false, _&&_, cond}
 use mathlib.Core.List.{List}
 use native.Mathlib.Nat.{mul-le-mul}
@@ -10,14 +9,14 @@ use lib.Dec.{leb}
 use lib.IntN.{ℤ, negsuc}
 use lib.Signed.{nonNeg}
 use lib.ListN.{length, take, set}
-use Rattle.base.specs.Places.{table}
 use Rattle.base.specs.Outputs.{filled}
-use Rattle.base.proofs.Counting.{case, clash, both, left, right, leb-yes, yes-leb, table-at}
+use Rattle.base.proofs.Counting.{case, both, left, right, leb-yes, yes-leb, table-at}
 use Rattle.rules.specs.Sheet.{Sheet, sheetOf}
 use Rattle.rules.specs.Regions.{at, opaque}
 use Rattle.rules.specs.Outline.{touches, paddedAt, padded, hasRing}
+use Rattle.grid.proofs.Places.{row-of, col-of, place-in}
 use Rattle.outline.specs.Room.{Held, fromOne, inside}
-use Rattle.outline.proofs.Places.{row-of, col-of, place-in, front-at}
+use Rattle.outline.proofs.Places.{front-at}
 use Rattle.outline.proofs.Fillings.{Moving, moving-start, moving-step, moving-end, filled-front}
 use Rattle.outline.proofs.Edges.{Edge, top, bottom, start, end, Touching, touching}
 use Rattle.outline.proofs.Rings.{Beside, above, below, leftward, rightward, ring-yes, ring-found}

@@ -7,11 +7,10 @@ use mathlib.Core.List.{List, [], _∷_}
 use native.Mathlib.Nat.{mul-le-mul, le-refl}
 use native.Mathlib.Omega.{arith}
 use borrow.Author.Tests.{lt-ltb, le-ltb, ltb-false, eq-eqb, ne-eqb}
-use lib.Dec.{ltb, eqb}
+use lib.Dec.{eqb}
 use lib.IntN.{ℤ}
 use lib.ListN.{length}
 use Rattle.base.specs.Refusals.{Row, refusal, filling, unless}
-use Rattle.base.specs.declared.Filling.{Filling}
 use Rattle.base.specs.declared.Filling.the-variants.{Done, Refused}
 use Rattle.base.proofs.Counting.{case, clash}
 use Rattle.rules.specs.declared.Outline.{Outline}
@@ -20,8 +19,9 @@ use Rattle.rules.specs.Sheet.{Sheet, sheetOf, needed}
 use Rattle.rules.specs.Palette.{Palette, outOfRange}
 use Rattle.rules.specs.Outline.{asked, touches, pads, canvas, hasRing}
 use Rattle.rules.specs.Rows.{tooLarge, tooShort, cramped, badPalette, badColour, badSetting, badDarkening, isAuto, noEntry}
-use Rattle.outline.proofs.Padding.{padded-ring}
 use Rattle.checks.proofs.Rows.{row-hit, row-pass, rows-none, rows-hit, rows-pass, refused-by, passed, not-large, good-palette}
+use Rattle.outline.specs.Room.{Roomy}
+use Rattle.outline.proofs.Padding.{padded-ring}
 
 pub needed-least : (h w : ℕ) (b : Bool) → h * w ≤ needed h w b
 unfolding needed
@@ -146,12 +146,6 @@ module _ (palette : Palette) (how : Outline) (fixed : Bool) (on : Sheet) where
           past-8 e = sym (ap filling (past-6 ∙ row-pass (noEntry fixed how palette on) [] e))
 
 -- ---- what it tells that no row refuses
-
-pub record Roomy (len work h w : ℕ) (b : Bool) : Type 0 where
-  pub high : h ≤ 512
-  pub wide : w ≤ 512
-  pub lent : needed h w b ≤ len
-  pub free : 8 * needed h w b ≤ work
 
 pub sheet-passed : (h w len room : ℕ) (b : Bool) → filling (refusal (sheet-rows h w len room (needed h w b))) ≡ Done → Roomy len room h w b
 unfolding tooShort cramped

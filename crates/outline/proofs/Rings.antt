@@ -4,20 +4,20 @@ use mathlib.Core.Path.{_≡_, refl, sym, ap, _∙_, subst}
 use mathlib.Core.Logic.{_⊎_, inl, inr, ⊎-elim}
 use mathlib.Core.Bool.{Bool, true, false, not, _&&_, _||_}
 use mathlib.Core.List.{List}
-use native.Mathlib.Nat.{suc-mul, zero-mul}
+use native.Mathlib.Nat.{div-add-mod', suc-mul, zero-mul}
 use native.Mathlib.Numerals.{add-one}
 use native.Mathlib.Decide.{decLt, ℕ-discrete}
 use native.Mathlib.Omega.{arith}
 use lib.Dec.{leb, eqb}
 use lib.IntN.{ℤ}
 use lib.ListN.{take}
-use Rattle.base.specs.Places.{any}
 use Rattle.base.proofs.Counting.{case, clash, both, left, right, either, or-left, or-right, not-true, not-false, eqb-yes, yes-eqb, leb-yes, yes-leb, any-yes, yes-any, same-test}
 use Rattle.rules.specs.Sheet.{Sheet, area, sheetOf}
 use Rattle.rules.specs.Regions.{opaque}
 use Rattle.rules.specs.Grid.{close, eight, four}
 use Rattle.rules.specs.Outline.{ring, hasRing}
-use Rattle.outline.proofs.Places.{wide, some-row, row-below, row-in, col-in, row-of, col-of, place-in, spelled, front}
+use Rattle.grid.proofs.Places.{wide, row-in, col-in, row-of, col-of, place-in}
+use Rattle.outline.proofs.Places.{some-row, row-below, front}
 
 -- the cell in row v and column u is above, below, left or right of the one in row y and column x
 pub data Beside (y x v u : ℕ) : Type 0 where
@@ -40,10 +40,10 @@ four-yes w y x v u lx lu b =
     rw (row-of w y x lx, row-of w v u lu, col-of w y x lx, col-of w v u lu)
     (both (both (both (both (yes-leb (k .1)) (yes-leb (k .2))) (both (yes-leb (k .3)) (yes-leb (k .4))))
     (not-false (case (eqb (y * w + x) (v * w + u))
-        (λ e. absurd (k .0
-            (sym (row-of w y x lx) ∙ ap (λ (n : ℕ). n / w) (eqb-yes {m = y * w + x} e) ∙ row-of w v u lu)
-            (sym (col-of w y x lx) ∙ ap (λ (n : ℕ). n % w) (eqb-yes {m = y * w + x} e) ∙ col-of w v u lu)))
-        (λ z. z))))
+    (λ e. absurd (k .0
+    (sym (row-of w y x lx) ∙ ap (λ (n : ℕ). n / w) (eqb-yes {m = y * w + x} e) ∙ row-of w v u lu)
+    (sym (col-of w y x lx) ∙ ap (λ (n : ℕ). n % w) (eqb-yes {m = y * w + x} e) ∙ col-of w v u lu)))
+    (λ z. z))))
     (⊎-elim (λ e. or-left _ (yes-eqb {m = y} {n = v} e)) (λ e. or-right (eqb y v) (yes-eqb {m = x} {n = u} e)) (k .5)))
 
 -- and every neighbour by `four` is such a cell
@@ -59,7 +59,7 @@ four-beside w p q e =
     let c : p % w ≤ q % w + 1 = leb-yes (left _ (leb (q % w) (p % w + 1)) cols) in
     let d : q % w ≤ p % w + 1 = leb-yes (right (leb (p % w) (q % w + 1)) _ cols) in
     let n = not-true (right (leb (p / w) (q / w + 1) && leb (q / w) (p / w + 1) && (leb (p % w) (q % w + 1) && leb (q % w) (p % w + 1))) (not (eqb p q)) e8) in
-    go a b c d (λ y x. clash (yes-eqb {m = p} {n = q} (sym (spelled w p) ∙ ap (λ (r : ℕ). r * w + p % w) y ∙ ap (λ (c : ℕ). q / w * w + c) x ∙ spelled w q)) n) (either _ _ (right (eight w p q) (eqb (p / w) (q / w) || eqb (p % w) (q % w)) e))
+    go a b c d (λ y x. clash (yes-eqb {m = p} {n = q} (sym (div-add-mod' p w) ∙ ap (λ (r : ℕ). r * w + p % w) y ∙ ap (λ (c : ℕ). q / w * w + c) x ∙ div-add-mod' q w)) n) (either _ _ (right (eight w p q) (eqb (p / w) (q / w) || eqb (p % w) (q % w)) e))
   where
     go : p / w ≤ q / w + 1 → q / w ≤ p / w + 1 → p % w ≤ q % w + 1 → q % w ≤ p % w + 1 → (p / w ≡ q / w → p % w ≡ q % w → ⊥)
         → (eqb (p / w) (q / w) ≡ true) ⊎ (eqb (p % w) (q % w) ≡ true) → Beside (p / w) (p % w) (q / w) (q % w)
@@ -95,10 +95,10 @@ module _ (s : Sheet) (y x : ℕ) (ly : y < s .height) (lx : x < s .width) where
           let w = s .width in
           let q = r .0 in
           let b : Beside y x (q / w) (q % w) = subst (λ (i : ℕ). Beside i x (q / w) (q % w)) (row-of w y x lx)
-              (subst (λ (j : ℕ). Beside ((y * w + x) / w) j (q / w) (q % w)) (col-of w y x lx)
-              (four-beside w (y * w + x) q (left _ (opaque (s .cells) q) (r .2)))) in
+          (subst (λ (j : ℕ). Beside ((y * w + x) / w) j (q / w) (q % w)) (col-of w y x lx)
+          (four-beside w (y * w + x) q (left _ (opaque (s .cells) q) (r .2)))) in
           let o : opaque (s .cells) q ≡ true = right (four w (y * w + x) q) _ (r .2) in
-          clash (subst (λ (i : ℕ). opaque (s .cells) i ≡ true) (sym (spelled w q)) o) (f (q / w) (q % w) (row-in (s .height) w q (r .1)) (col-in (s .height) w q (r .1)) b)
+          clash (subst (λ (i : ℕ). opaque (s .cells) i ≡ true) (sym (div-add-mod' q w)) o) (f (q / w) (q % w) (row-in (s .height) w q (r .1)) (col-in (s .height) w q (r .1)) b)
 
 -- there is a ring where one of the cells is of it
 pub ring-found : (s : Sheet) (p : ℕ) → p < s .height * s .width → ring s p ≡ true → hasRing s ≡ true

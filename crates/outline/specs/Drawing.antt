@@ -1,5 +1,4 @@
 -- An outline drawn on a sheet that is padded already. Definitions only. Assumes nothing.
-use Prim.Native.Nat.{ℕ}
 use mathlib.Core.Bool.{Bool, cond}
 use mathlib.Core.List.{List}
 use mathlib.Core.Path.{_≡_}

@@ -35,7 +35,10 @@ fn before(s: Spot, w: usize) -> Spot
     ensures { λ r. ⌜ (r .y * w + r .x + 1 ≡ s .y * w + s .x) × (r .x < w) ⌝ }
 {
     if s.x == 0 {
-        return Spot { y: s.y - 1, x: w - 1 };
+        return Spot {
+            y: s.y - 1,
+            x: w - 1,
+        };
     }
     Spot { y: s.y, x: s.x - 1 }
 }

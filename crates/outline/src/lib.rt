@@ -3,18 +3,21 @@ pub mod canvas;
 pub mod line;
 pub mod ring;
 pub mod rows;
+
 use base::Filling;
 use rules::Facts;
 use rules::LineIndex;
 use rules::Outline;
 use rules::Outlining;
 ghost use mathlib.Core.Path.{_≡_};
+ghost use mathlib.Core.Bool.{not, _&&_};
 ghost use Prim.Native.Nat.{_*_, _≤_};
 ghost use lib.ListN.{length};
 ghost use Rattle.rules.specs.Sheet.{sheetOf};
 ghost use Rattle.rules.specs.Palette.{paletteOf};
+ghost use Rattle.rules.specs.Outline.{canvas};
 ghost use Rattle.rules.specs.Entries.{outlineAnswer, outlineCells, outlinePalette};
-ghost use Rattle.outline.specs.Room.{Held};
+ghost use Rattle.outline.specs.Room.{Held, Roomy};
 ghost use Rattle.outline.specs.Drawing.{traced, Drew};
 
 // Draws the ring, where there is one, and answers the facts.
@@ -56,6 +59,30 @@ fn draw(
     }
 }
 
+// Outlines a sheet that no row refuses, padded first if padding applies. An edge that is touched is clipped, if not padded.
+fn trace(
+    cells: &mut [i32],
+    h: usize,
+    w: usize,
+    palette: &mut [f64],
+    k: usize,
+    outline: Outline,
+    fixed: bool,
+    padding: bool,
+    touched: bool,
+    work: &mut [u32],
+) -> Facts
+    requires { ⌜ Roomy (length (now cells)) (length (now work)) h w padding ⌝ }
+    requires { ⌜ (length (now palette) ≡ 768) × (k ≤ 256) ⌝ }
+    ensures { λ r. ⌜ Drew (traced (not padding && touched) fixed outline (canvas padding (sheetOf (now (cells .entry)) h w)) (paletteOf (now (palette .entry)) k)) (now (cells .entry)) r (now (cells .exit)) (now (palette .exit)) ⌝ }
+{
+    if padding {
+        canvas::pad(cells, h, w);
+        return draw(cells, h + 2, w + 2, palette, k, outline, fixed, false, work);
+    }
+    draw(cells, h, w, palette, k, outline, fixed, touched, work)
+}
+
 // Outlines a sheet in its lent list, and gives the outline its palette entry.
 pub fn add_outline(
     cells: &mut [i32],
@@ -77,14 +104,21 @@ pub fn add_outline(
     }
     let touched = canvas::touches_edge(cells, h, w);
     let padding = rows::pads(allow_pad, outline, touched);
-    if let Filling::Refused(n) = rows::line_refusal(cells, h, w, palette, k, outline, padding, fixed_palette) {
+    let refused = rows::line_refusal(cells, h, w, palette, k, outline, padding, fixed_palette);
+    if let Filling::Refused(n) = refused {
         return Outlining::Refused(n);
     }
-    if padding {
-        canvas::pad(cells, h, w);
-        let facts = draw(cells, h + 2, w + 2, palette, k, outline, fixed_palette, false, work);
-        return Outlining::Drawn(facts);
-    }
-    let facts = draw(cells, h, w, palette, k, outline, fixed_palette, touched, work);
+    let facts = trace(
+        cells,
+        h,
+        w,
+        palette,
+        k,
+        outline,
+        fixed_palette,
+        padding,
+        touched,
+        work,
+    );
     Outlining::Drawn(facts)
 }

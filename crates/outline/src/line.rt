@@ -60,7 +60,8 @@ fn nearest_entry(palette: &[f64], k: usize, c: Lab) -> usize
 {
     let mut best = Least::Nothing;
     for i in 0..k {
-        best = lower(best, i, distance(entry(palette, i), c));
+        let d = distance(entry(palette, i), c);
+        best = lower(best, i, d);
     }
     place(best)
 }
@@ -146,16 +147,28 @@ pub fn choose(palette: &mut [f64], k: usize, c: Lab, fixed: bool) -> Chosen
 {
     if fixed {
         let i = nearest_entry(palette, k, c);
-        return Chosen { index: i, colours: k };
+        return Chosen {
+            index: i,
+            colours: k,
+        };
     }
     if let Found::At(i) = first_same(palette, k, lab_to_rgb8_one(c)) {
-        return Chosen { index: i, colours: k };
+        return Chosen {
+            index: i,
+            colours: k,
+        };
     }
     if k < 256 {
         recolour(palette, k, c);
-        return Chosen { index: k, colours: k + 1 };
+        return Chosen {
+            index: k,
+            colours: k + 1,
+        };
     }
     let i = nearest_entry(palette, k, c);
     recolour(palette, i, c);
-    Chosen { index: i, colours: k }
+    Chosen {
+        index: i,
+        colours: k,
+    }
 }

@@ -40,9 +40,9 @@ pub fn has_ring(cells: &[i32], h: usize, w: usize) -> bool
     requires { ⌜ Held (now cells) h w ⌝ }
     ensures { λ r. ⌜ r ≡ hasRing (sheetOf (now (cells .entry)) h w) ⌝ }
 {
-    let n = h * w;
+    let count = h * w;
     let mut s = Spot { y: 0, x: 0 };
-    for p in 0..n {
+    for p in 0..count {
         if ring_at(cells, h, w, p, s.y, s.x) {
             return true;
         }

@@ -1,8 +1,8 @@
 // The refusals of `add_outline`, before the first write.
-use base::Filling;
-use rules::Outline;
 use crate::canvas::touches_edge;
 use crate::ring::has_ring;
+use base::Filling;
+use rules::Outline;
 ghost use mathlib.Core.Path.{_≡_};
 ghost use mathlib.Core.Bool.{true, not, _&&_, _||_};
 ghost use mathlib.Core.List.{[], _∷_};

@@ -1,11 +1,11 @@
 -- `checks::bad_darkening` meets its contract. Row 6 of an outline, by its cases. Assumes nothing.
 use mathlib.Core.Path.{refl, ap}
 use mathlib.Core.Bool.{not}
+use borrow.Author.Needs.{needs}
 use lib.Ieee.{round, ofBits}
+use Rattle.color.specs.Doubles.{decimal}
 use Rattle.rules.specs.Rows.{badDarkening}
 use Rattle.rules.specs.Palette.{between}
-use Rattle.color.specs.Doubles.{decimal}
-use borrow.Author.Needs.{needs}
 use Rattle.checks.proofs.bad_darkening.Statement.{statement}
 use Rattle.checks.proofs.bad_darkening.Tie as tie
 

@@ -6,10 +6,10 @@ use native.Mathlib.Omega.{arith}
 use lib.IntN.{pos}
 use lib.Signed.{leZ}
 use Rattle.base.specs.Places.{any}
+use Rattle.base.proofs.Counting.{yes-any}
 use Rattle.rules.specs.Regions.{at}
 use Rattle.checks.proofs.Scans.{none-yet, none-more}
 use Rattle.checks.proofs.Signs.{past}
-use Rattle.base.proofs.Counting.{yes-any}
 use Rattle.checks.proofs.bad_index.Statement.{statement}
 use Rattle.checks.proofs.bad_index.Tie as tie
 

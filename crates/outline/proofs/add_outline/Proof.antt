@@ -1,33 +1,22 @@
 -- `outline::add_outline` meets its contract: what every refusal leaves, and what is drawn. Assumes nothing.
-use Prim.Native.Nat.{ℕ, _+_, _*_, _≤_}
-use mathlib.Core.Path.{_≡_, refl, sym, ap, _∙_}
-use mathlib.Core.Bool.{Bool, true, false, _&&_}
-use mathlib.Core.List.{List}
-use mathlib.Core.Option.{Option, none, some}
+use mathlib.Core.Path.{_≡_, sym, ap, _∙_}
+use mathlib.Core.Bool.{Bool, _&&_}
+use mathlib.Core.Option.{none}
 use native.Mathlib.Omega.{arith}
-use lib.IntN.{ℤ}
 use lib.ListN.{length}
 use Rattle.base.specs.declared.Filling.the-variants.{Done}
-use Rattle.base.specs.Refusals.{Row, refusal, filling}
+use Rattle.base.specs.Refusals.{refusal, filling}
 use Rattle.base.proofs.Counting.{right}
-use Rattle.rules.specs.Sheet.{Sheet, sheetOf}
-use Rattle.rules.specs.Palette.{Palette, paletteOf}
+use Rattle.rules.specs.Sheet.{sheetOf}
+use Rattle.rules.specs.Palette.{paletteOf}
 use Rattle.rules.specs.Outline.{asked, touches, pads, canvas}
 use Rattle.rules.specs.Entries.{outlineRefusal}
-use Rattle.outline.specs.Room.{Held}
-use Rattle.outline.proofs.Refusing.{Roomy, sheet-passed, roomy-padded, roomy-plain, Drawable, line-passed, line-rows, line-part, sheet-part, refused-sheet, refused-line, not-refused}
-use Rattle.outline.proofs.Drawn.{drew-padded, drew-plain, met-refused, met-drawn}
+use Rattle.outline.specs.Room.{Held, Roomy}
+use Rattle.outline.proofs.Refusing.{sheet-passed, roomy-plain, Drawable, line-passed, line-rows, line-part, sheet-part, refused-sheet, refused-line, not-refused}
+use Rattle.outline.proofs.Drawn.{outline-is, met-refused, met-drawn}
 use borrow.Author.Needs.{needs}
 use Rattle.outline.proofs.add_outline.Statement.{statement}
 use Rattle.outline.proofs.add_outline.Tie as tie
-use Rattle.outline.proofs.add_outline.Reads as reads
-use Rattle.outline.proofs.add_outline.Lts as lts
-use Rattle.outline.proofs.canvas.pad.Reads as pad-reads
-use Rattle.outline.proofs.canvas.touches_edge.Reads as touches-edge-reads
-use Rattle.outline.proofs.draw.Reads as draw-reads
-use Rattle.outline.proofs.rows.line_refusal.Reads as line-refusal-reads
-use Rattle.outline.proofs.rows.pads.Reads as pads-reads
-use Rattle.outline.proofs.rows.sheet_refusal.Reads as sheet-refusal-reads
 
 -- ---- rows 1, 2 and 3 do not apply
 
@@ -87,25 +76,17 @@ ready c =
     not-refused (s .cells .now) (s .h) (s .w) (paletteOf (s .palette .now) (s .k)) (s .outline) (s .allow-pad) (s .fixed-palette) (length (s .work .now))
     (begun (entered (past c))) (line-is (c .before .before) ∙ c .enum-told2 .given .1)
 
-pads-is : (c : tie.Then1) → (given (c .before) .args .allow-pad && asked (given (c .before) .args .outline)
-    && touches (sheetOf (given (c .before) .args .cells .now) (given (c .before) .args .h) (given (c .before) .args .w))) ≡ true
-pads-is c = sym (padding (past (c .before))) ∙ c .if1 .taken
-
--- src/lib.rt:75:34
 sheet-refusal-requires : tie.Need-sheet-refusal-requires
 sheet-refusal-requires c κs = search needs
 
--- src/lib.rt:75:29
 enum-known-n : tie.Need-enum-known-n
 enum-known-n c = search needs
 
--- src/lib.rt:76:9
 same-length : tie.Need-same-length
 same-length c = search needs
 
--- src/lib.rt:76:9
 returns : tie.Need-returns
-returns c = 
+returns c =
     let r = c .before .before .before in
     let s = r .before .before .before .before .args in
     met-refused (s .cells .now) (s .h) (s .w) (paletteOf (s .palette .now) (s .k)) (s .outline) (s .allow-pad) (s .fixed-palette) (length (s .work .now)) _
@@ -114,122 +95,63 @@ returns c =
 enum-told : tie.Need-enum-told
 enum-told c = search needs
 
--- src/lib.rt:78:9
 touches-edge-requires : tie.Need-touches-edge-requires
 touches-edge-requires c κs = held (c .before)
 
--- src/lib.rt:79:9
 pads-requires : tie.Need-pads-requires
 pads-requires c κs = search needs
 
--- src/lib.rt:80:34
 line-refusal-requires : tie.Need-line-refusal-requires
-line-refusal-requires c κs = 
+line-refusal-requires c κs =
     let p = c .before .before in
     (held (entered p), λ e. right (start (entered p) .args .allow-pad && asked (start (entered p) .args .outline)) _ (sym (padding p) ∙ e))
 
--- src/lib.rt:80:29
-enum-known-n-2 : tie.Need-enum-known-n-2
-enum-known-n-2 c = search needs
+enum-known-refused : tie.Need-enum-known-refused
+enum-known-refused c = search needs
 
--- src/lib.rt:81:9
 same-length-2 : tie.Need-same-length-2
 same-length-2 c = search needs
 
--- src/lib.rt:81:9
 same-length-3 : tie.Need-same-length-3
 same-length-3 c = search needs
 
--- src/lib.rt:81:9
 returns-2 : tie.Need-returns-2
-returns-2 c = 
+returns-2 c =
     let r = c .before .before .before in
     let e = entered (r .before .before .before) in
     let s = start e .args in
     met-refused (s .cells .now) (s .h) (s .w) (paletteOf (s .palette .now) (s .k)) (s .outline) (s .allow-pad) (s .fixed-palette) (length (s .work .now)) _
-    (refused-line (s .cells .now) (s .h) (s .w) (paletteOf (s .palette .now) (s .k)) (s .outline) (s .allow-pad) (s .fixed-palette) (length (s .work .now)) (begun e) _ (line-is r ∙ c .before .n2 .given .1))
+    (refused-line (s .cells .now) (s .h) (s .w) (paletteOf (s .palette .now) (s .k)) (s .outline) (s .allow-pad) (s .fixed-palette) (length (s .work .now)) (begun e) _ (line-is r ∙ c .before .refused .given .1))
 
 enum-told-2 : tie.Need-enum-told-2
 enum-told-2 c = search needs
 
--- src/lib.rt:84:9
-pad-requires : tie.Need-pad-requires
+trace-requires : tie.Need-trace-requires
 unfolding pads
-pad-requires c κs = 
-    let e = entered (past (c .before .before)) in
-    let k = roomy e in
-    (k .high, k .wide, roomy-padded k (pads-is (c .before)) .0)
+trace-requires c κs =
+    let e = c .before .before .before in
+    let d = drawable e in
+    (rw (padding (past e)) (roomy (entered (past e))), (d .whole, d .few))
 
--- src/lib.rt:85:33
-add-draw : tie.Need-add-draw
-add-draw c = let k = roomy (entered (past (c .before .before .before .before .before))) in record { fits = omega (arith, k .high) }
-
--- src/lib.rt:85:40
-add-draw-2 : tie.Need-add-draw-2
-add-draw-2 c = let k = roomy (entered (past (c .before .before .before .before .before))) in record { fits = omega (arith, k .wide) }
-
--- src/lib.rt:85:13
-draw-requires : tie.Need-draw-requires
-unfolding pads
-draw-requires c κs = 
-    let a = c .before .before .before .before in
-    let t = a .before .before in
-    let k = roomy (entered (past (t .before))) in
-    let n = roomy-padded k (pads-is t) in
-    let d = drawable (t .before) in
-    (record { high = omega (arith, k .high); wide = omega (arith, k .wide); room = omega (arith, n .0, a .pad .kept .0) }, (d .whole, d .few, n .1))
-
--- src/lib.rt:86:9
 same-length-4 : tie.Need-same-length-4
 same-length-4 c = search needs
 
--- src/lib.rt:86:9
 same-length-5 : tie.Need-same-length-5
 same-length-5 c = search needs
 
--- src/lib.rt:86:9
 same-length-6 : tie.Need-same-length-6
 same-length-6 c = search needs
 
--- src/lib.rt:86:9
 returns-3 : tie.Need-returns-3
-returns-3 c = 
-    let d = c .before .before .before .before .before in
-    let a = d .before .before .before .before .before in
-    let t = a .before .before in
-    let s = start (entered (past (t .before))) .args in
-    met-drawn (s .cells .now) (s .h) (s .w) (paletteOf (s .palette .now) (s .k)) (s .outline) (s .allow-pad) (s .fixed-palette) (length (s .work .now)) (ready (t .before))
-    (drew-padded (s .allow-pad) (s .fixed-palette) (s .outline) (s .cells .now) (s .h) (s .w) (paletteOf (s .palette .now) (s .k)) (pads-is t) _ (a .pad .ensures) (d .draw .ensures))
-
--- src/lib.rt:88:9
-draw-requires-2 : tie.Need-draw-requires-2
-draw-requires-2 c κs = 
-    let e = c .before .before .before in
-    let k = entered (past (e .before)) in
-    let d = drawable (e .before) in
-    (held k, (d .whole, d .few, roomy-plain (roomy k) .1))
-
--- src/lib.rt:60:1
-same-length-7 : tie.Need-same-length-7
-same-length-7 c = search needs
-
--- src/lib.rt:60:1
-same-length-8 : tie.Need-same-length-8
-same-length-8 c = search needs
-
--- src/lib.rt:60:1
-same-length-9 : tie.Need-same-length-9
-same-length-9 c = search needs
-
--- src/lib.rt:60:1
-returns-4 : tie.Need-returns-4
-returns-4 c = 
-    let d = c .before .before .before .before .before in
-    let e = d .before .before .before .before in
-    let p = past (e .before) in
-    let s = start (entered p) .args in
-    met-drawn (s .cells .now) (s .h) (s .w) (paletteOf (s .palette .now) (s .k)) (s .outline) (s .allow-pad) (s .fixed-palette) (length (s .work .now)) (ready (e .before))
-    (drew-plain (s .allow-pad) (s .fixed-palette) (s .outline) (s .cells .now) (s .h) (s .w) (paletteOf (s .palette .now) (s .k)) (drawable (e .before) .wanted) (sym (padding p) ∙ e .if1 .left) _ (p .before .touches-edge .ensures) (d .draw2 .ensures))
+unfolding pads
+returns-3 c =
+    let t = c .before .before .before .before .before in
+    let e = t .before .before .before .before in
+    let p = past e in
+    let s = given e .args in
+    met-drawn (s .cells .now) (s .h) (s .w) (paletteOf (s .palette .now) (s .k)) (s .outline) (s .allow-pad) (s .fixed-palette) (length (s .work .now)) (ready e) _
+    (outline-is (s .allow-pad) (s .fixed-palette) (s .outline) (sheetOf (s .cells .now) (s .h) (s .w)) (paletteOf (s .palette .now) (s .k)) (drawable e .wanted) _ _ (padding p) (p .before .touches-edge .ensures))
+    (t .trace .ensures)
 
 pub add-outline-spec : {M : Type 1} → statement M
 add-outline-spec =
@@ -243,21 +165,13 @@ add-outline-spec =
     touches-edge-requires
     pads-requires
     line-refusal-requires
-    enum-known-n-2
+    enum-known-refused
     same-length-2
     same-length-3
     returns-2
     enum-told-2
-    pad-requires
-    add-draw
-    add-draw-2
-    draw-requires
+    trace-requires
     same-length-4
     same-length-5
     same-length-6
-    returns-3
-    draw-requires-2
-    same-length-7
-    same-length-8
-    same-length-9
-    returns-4)
+    returns-3)

@@ -1,27 +1,16 @@
+-- `outline::draw` meets its contract. With no ring nothing changes; else the entry, the marks and the ink. Assumes nothing.
 use Prim.Native.Nat.{ℕ, _*_, _<_}
-use mathlib.Core.Path.{_≡_, refl, sym, ap, _∙_, subst}
+use mathlib.Core.Path.{refl, sym, ap, _∙_}
 use mathlib.Core.List.{List}
-
-use borrow.Author.Tests.{not-true, not-false}
 use native.Mathlib.Omega.{arith}
+use borrow.Author.Tests.{not-true, not-false}
+use borrow.Author.Needs.{needs}
 use Rattle.base.specs.Outputs.{filled}
-use Rattle.color.specs.declared.Lab.{Lab}
-use Rattle.rules.specs.Palette.{paletteOf}
-use Rattle.rules.specs.Outline.{choice}
-use Rattle.outline.specs.Line.{Chose}
 use Rattle.outline.proofs.Choosing.{index-below}
 use Rattle.outline.proofs.Inking.{painted, inked-is}
 use Rattle.outline.proofs.Drawn.{drew-none, drew-ring}
-use borrow.Author.Needs.{needs}
 use Rattle.outline.proofs.draw.Statement.{statement}
 use Rattle.outline.proofs.draw.Tie as tie
-use Rattle.outline.proofs.draw.Reads as reads
-use Rattle.outline.proofs.draw.Lts as lts
-use Rattle.outline.proofs.line.choose.Reads as choose-reads
-use Rattle.outline.proofs.line.outline_color_lab.Reads as outline-color-lab-reads
-use Rattle.outline.proofs.ring.has_ring.Reads as has-ring-reads
-use Rattle.outline.proofs.ring.ink.Reads as ink-reads
-use Rattle.outline.proofs.ring.mark_ring.Reads as mark-ring-reads
 
 abbrev chosen : tie.After-mark-ring → tie.After-choose
 chosen c = c .before .before .before .before .before
@@ -32,60 +21,47 @@ start c = c .before .before .before .before .before .before .before .before .bef
 small : (c : tie.After-choose) → c .choose .result .index < 256
 small c = rw (c .choose .ensures .at) (index-below _ _ _ (start c .pre .1 .1))
 
--- src/lib.rt:36:9
 has-ring-requires : tie.Need-has-ring-requires
 has-ring-requires c κs = search needs
 
--- src/lib.rt:37:9
 same-length : tie.Need-same-length
 same-length c = search needs
 
--- src/lib.rt:37:9
 returns : tie.Need-returns
 returns c =
     let s = c .before .before .before .before .before in
     drew-none _ _ _ _ _ _ _ (s .pre .0 .room) (sym (c .before .has-ring .ensures) ∙ not-true (c .before .has-ring .result) (c .if1 .taken))
 
--- src/lib.rt:45:9
 outline-color-lab-requires : tie.Need-outline-color-lab-requires
 outline-color-lab-requires c κs = search needs
 
--- src/lib.rt:46:9
 choose-requires : tie.Need-choose-requires
 choose-requires c κs = search needs
 
--- src/lib.rt:48:5
 mark-ring-requires : tie.Need-mark-ring-requires
 mark-ring-requires c κs = search needs
 
--- src/lib.rt:49:22
 mul-ink : tie.Need-mul-ink
 mul-ink c = search needs
 
--- src/lib.rt:49:5
 ink-requires : tie.Need-ink-requires
 ink-requires c κs =
     let m = c .before .before .before .before in
     let s = start (chosen m) in
     (s .pre .0 .room, omega (arith, m .mark-ring .kept .1 .1 .1 .0, s .pre .1 .2), omega (arith, small (chosen m)))
 
--- src/lib.rt:54:41
 cast-t32 : tie.Need-cast-t32
 cast-t32 c = record { fits = omega (arith, small (chosen (c .before .before .before .before .before .before))) }
 
--- src/lib.rt:21:1
 same-length-2 : tie.Need-same-length-2
 same-length-2 c = search needs
 
--- src/lib.rt:21:1
 same-length-3 : tie.Need-same-length-3
 same-length-3 c = search needs
 
--- src/lib.rt:21:1
 same-length-4 : tie.Need-same-length-4
 same-length-4 c = search needs
 
--- src/lib.rt:21:1
 returns-2 : tie.Need-returns-2
 unfolding painted
 returns-2 c =

@@ -1,5 +1,6 @@
-use Prim.Native.Nat.{ℕ, _+_, _-_, _*_, _≤_, _<_}
-use mathlib.Core.Path.{_≡_, sym, ap, _∙_}
+-- `outline::canvas::any_solid` meets its contract. The loop: no cell before i is opaque. Assumes nothing.
+use Prim.Native.Nat.{_+_, _-_, _*_, _≤_, _<_}
+use mathlib.Core.Path.{_≡_, sym, _∙_}
 use mathlib.Core.Bool.{false}
 use native.Mathlib.Omega.{arith}
 use lib.ListN.{length}
@@ -9,9 +10,6 @@ use Rattle.rules.specs.Regions.{opaque}
 use Rattle.checks.proofs.Scans.{none-yet, none-more}
 use Rattle.outline.proofs.canvas.any_solid.Statement.{statement}
 use Rattle.outline.proofs.canvas.any_solid.Tie as tie
-use Rattle.outline.proofs.canvas.any_solid.Reads as reads
-use Rattle.outline.proofs.canvas.any_solid.Lts as lts
-use Rattle.outline.proofs.canvas.solid.Reads as solid-reads
 
 abbrev Inv-loop : tie.InvT-loop
 Inv-loop cells from step count i₀ i = (i ≤ count) × (any i (λ j. opaque cells (from + j * step)) ≡ false)
@@ -22,39 +20,30 @@ abbrev μ-loop : tie.MeasureT-loop
 inside : (c : tie.In-loop Inv-loop μ-loop) → c .before .before .args .from + c .before .loop .i * c .before .before .args .step < length (c .before .before .args .cells .now)
 inside c = c .before .before .pre (c .before .loop .i) (c .loop-test .taken)
 
--- src/canvas.rt:57:5
 loop-holds : tie.Need-loop-holds Inv-loop μ-loop
 loop-holds c = (omega arith, none-yet _)
 
--- src/canvas.rt:58:24
 mul-p : tie.Need-mul-p Inv-loop μ-loop
 mul-p c = record { fits = omega (arith, inside c) }
 
--- src/canvas.rt:58:17
 add-p : tie.Need-add-p Inv-loop μ-loop
 add-p c = record { fits = omega (arith, inside c) }
 
--- src/canvas.rt:59:12
 solid-requires : tie.Need-solid-requires Inv-loop μ-loop
 solid-requires c κs = inside c
 
--- src/canvas.rt:60:13
 returns : tie.Need-returns Inv-loop μ-loop
 returns c = sym (yes-any _ _ (c .before .before .before .loop .i) (omega arith) (sym (c .before .solid .ensures) ∙ c .if1 .taken))
 
--- src/canvas.rt:57:9
 add-i : tie.Need-add-i Inv-loop μ-loop
 add-i c = omega arith
 
--- src/canvas.rt:57:5
 loop-less : tie.Need-loop-less Inv-loop μ-loop
 loop-less c = omega arith
 
--- src/canvas.rt:57:5
 loop-again : tie.Need-loop-again Inv-loop μ-loop
 loop-again c = (omega arith, none-more _ _ (c .before .before .before .loop .inv .1) (sym (c .before .solid .ensures) ∙ c .if1 .left))
 
--- src/canvas.rt:53:1
 returns-2 : tie.Need-returns-2 Inv-loop μ-loop
 returns-2 c =
     let e : c .before .loop .i ≡ c .before .before .args .count = omega arith in

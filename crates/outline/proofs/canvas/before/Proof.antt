@@ -1,35 +1,28 @@
-use Prim.Native.Nat.{ℕ, _+_, _-_, _*_, _≤_, _<_}
-use mathlib.Core.Path.{_≡_}
+-- `outline::canvas::before` meets its contract. In column 0 it is the last cell of the row before. Assumes nothing.
+use Prim.Native.Nat.{_≤_}
 use native.Mathlib.Omega.{arith}
 use borrow.Author.Needs.{needs}
 use Rattle.outline.proofs.Places.{some-row, row-back}
 use Rattle.outline.proofs.canvas.before.Statement.{statement}
 use Rattle.outline.proofs.canvas.before.Tie as tie
-use Rattle.outline.proofs.canvas.before.Reads as reads
-use Rattle.outline.proofs.canvas.before.Lts as lts
 
--- src/canvas.rt:39:26
 sub-t4 : tie.Need-sub-t4
 sub-t4 c =
     let s = c .before .before .before in
     some-row (s .args .s .y) (s .args .w) (omega arith)
 
--- src/canvas.rt:39:38
 sub-t5 : tie.Need-sub-t5
 sub-t5 c = search needs
 
--- src/canvas.rt:39:9
 returns : tie.Need-returns
 returns c =
     let s = c .before .before .before in
     let k : 1 ≤ s .args .s .y = some-row (s .args .s .y) (s .args .w) (omega arith) in
     (omega (arith, row-back (s .args .s .y) (s .args .w) k), omega arith)
 
--- src/canvas.rt:41:23
 sub-t6 : tie.Need-sub-t6
 sub-t6 c = search needs
 
--- src/canvas.rt:34:1
 returns-2 : tie.Need-returns-2
 returns-2 c = search needs
 

@@ -1,20 +1,17 @@
+-- `outline::canvas::padded_cell` meets its contract. Where the cell is read, and that it is read only there. Assumes nothing.
 use Prim.Native.Nat.{ℕ, _+_, _-_, _*_, _≤_, _<_}
-use mathlib.Core.Path.{_≡_, sym, ap, _∙_}
+use mathlib.Core.Path.{sym, _∙_}
 use native.Mathlib.Omega.{arith}
 use lib.IntN.{pos}
 use lib.ListN.{length, getD}
 use mir.Syntax.{w32}
 use mir.Facts.{toZ-ofZ}
 use Rattle.rules.proofs.Reading.{read-at}
+use Rattle.grid.proofs.Places.{place-in, area as area-fits}
 use Rattle.outline.specs.Room.{inside}
-use Rattle.outline.proofs.Places.{place-in, area-fits}
 use Rattle.outline.proofs.Padding.{inside-yes}
-use borrow.Author.Needs.{needs}
 use Rattle.outline.proofs.canvas.padded_cell.Statement.{statement}
 use Rattle.outline.proofs.canvas.padded_cell.Tie as tie
-use Rattle.outline.proofs.canvas.padded_cell.Reads as reads
-use Rattle.outline.proofs.canvas.padded_cell.Lts as lts
-use Rattle.outline.proofs.canvas.inside.Reads as inside-reads
 
 -- where the cell is read
 record On (h w y x n : ℕ) : Type 0 where
@@ -33,35 +30,27 @@ on c =
     let s = c .before .before in
     on-sheet _ _ _ _ _ (s .pre .high) (s .pre .wide) (s .pre .room) (inside-yes _ _ _ _ (sym (c .before .inside .ensures) ∙ c .if1 .taken))
 
--- src/canvas.rt:99:8
 inside-requires : tie.Need-inside-requires
 inside-requires c κs = tt
 
--- src/canvas.rt:100:21
 sub-from : tie.Need-sub-from
 sub-from c = on c .low
 
--- src/canvas.rt:100:20
 mul-from : tie.Need-mul-from
 mul-from c = record { fits = omega (arith, on c .fits) }
 
--- src/canvas.rt:100:35
 sub-from-2 : tie.Need-sub-from-2
 sub-from-2 c = on c .left
 
--- src/canvas.rt:100:20
 add-from : tie.Need-add-from
 add-from c = record { fits = omega (arith, on c .fits) }
 
--- src/canvas.rt:101:9
 mul-result : tie.Need-mul-result
 mul-result c = record { fits = omega (arith, on c .fits) }
 
--- src/canvas.rt:101:9
 shared-slice-copy-out-result : tie.Need-shared-slice-copy-out-result
 shared-slice-copy-out-result c = omega (arith, on c .held)
 
--- src/canvas.rt:95:1
 returns : tie.Need-returns
 returns c =
     let s = c .before .before .before in
@@ -69,7 +58,6 @@ returns c =
     (toZ-ofZ {w = w32} {z = getD (s .args .cells .now) ((s .args .y - 1) * s .args .w + (s .args .x - 1)) (pos 0)} (record { sfits = c .result .given })
     ∙ read-at (s .args .cells .now) ((s .args .y - 1) * s .args .w + (s .args .x - 1)) (on (c .before) .held))
 
--- src/canvas.rt:95:1
 returns-2 : tie.Need-returns-2
 returns-2 c = rw (sym (c .before .inside .ensures) ∙ c .if1 .left)
 

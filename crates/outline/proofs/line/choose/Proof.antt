@@ -1,7 +1,8 @@
-use Prim.Native.Nat.{ℕ}
+-- `outline::line::choose` meets its contract. By the ways in which a colour gets an entry. Assumes nothing.
 use mathlib.Core.Bool.{true}
 use mathlib.Core.Path.{_≡_, refl, sym, ap, _∙_}
 use native.Mathlib.Omega.{arith}
+use borrow.Author.Needs.{needs}
 use Rattle.color.specs.declared.Rgb8.{Rgb8}
 use Rattle.color.specs.Lab.{labToRgb8}
 use Rattle.rules.specs.Palette.{paletteOf, colour, firstWhere}
@@ -9,15 +10,8 @@ use Rattle.rules.specs.Outline.{sameRgb8}
 use Rattle.outline.specs.Line.{found}
 use Rattle.outline.proofs.Least.{nearest-below}
 use Rattle.outline.proofs.Choosing.{chose-fixed, chose-same, chose-append, chose-replace}
-use borrow.Author.Needs.{needs}
 use Rattle.outline.proofs.line.choose.Statement.{statement}
 use Rattle.outline.proofs.line.choose.Tie as tie
-use Rattle.outline.proofs.line.choose.Reads as reads
-use Rattle.outline.proofs.line.choose.Lts as lts
-use Rattle.color.proofs.cielab.lab_to_rgb8_one.Reads as lab-to-rgb8-one-reads
-use Rattle.outline.proofs.line.first_same.Reads as first-same-reads
-use Rattle.outline.proofs.line.nearest_entry.Reads as nearest-entry-reads
-use Rattle.outline.proofs.line.recolour.Reads as recolour-reads
 
 abbrev start : tie.After-first-same → tie.Start
 start c = c .before .before .before .before .before
@@ -25,35 +19,27 @@ start c = c .before .before .before .before .before
 answer : (c : tie.After-first-same) → found (firstWhere (λ i. sameRgb8 (labToRgb8 (colour (paletteOf (start c .args .palette .now) (start c .args .k)) i)) (labToRgb8 (start c .args .c))) (start c .args .k)) ≡ c .first-same .result
 answer c = sym (c .first-same .ensures ∙ ap (λ (x : Rgb8). found (firstWhere (λ i. sameRgb8 (labToRgb8 (colour (paletteOf (start c .args .palette .now) (start c .args .k)) i)) x) (start c .args .k))) (c .before .lab-to-rgb8-one .ensures))
 
--- src/line.rt:144:13
 nearest-entry-requires : tie.Need-nearest-entry-requires
 nearest-entry-requires c κs = search needs
 
--- src/line.rt:145:9
 same-length : tie.Need-same-length
 same-length c = search needs
 
--- src/line.rt:145:9
 returns : tie.Need-returns
 returns c = rw (c .before .before .if1 .taken) (chose-fixed _ _ _ (c .nearest-entry .ensures))
 
--- src/line.rt:147:50
 lab-to-rgb8-one-requires : tie.Need-lab-to-rgb8-one-requires
 lab-to-rgb8-one-requires c κs = search needs
 
--- src/line.rt:147:27
 first-same-requires : tie.Need-first-same-requires
 first-same-requires c κs = search needs
 
--- src/line.rt:147:22
 enum-known-i : tie.Need-enum-known-i
 enum-known-i c = search needs
 
--- src/line.rt:148:9
 same-length-2 : tie.Need-same-length-2
 same-length-2 c = search needs
 
--- src/line.rt:148:9
 returns-2 : tie.Need-returns-2
 returns-2 c =
     let f = c .before .before .before in
@@ -62,19 +48,15 @@ returns-2 c =
 enum-told : tie.Need-enum-told
 enum-told c = search needs
 
--- src/line.rt:151:9
 recolour-requires : tie.Need-recolour-requires
 recolour-requires c κs = search needs
 
--- src/line.rt:152:44
 add-t18 : tie.Need-add-t18
 add-t18 c = search needs
 
--- src/line.rt:152:9
 same-length-3 : tie.Need-same-length-3
 same-length-3 c = search needs
 
--- src/line.rt:152:9
 returns-3 : tie.Need-returns-3
 returns-3 c =
     let r = c .before .before in
@@ -82,22 +64,18 @@ returns-3 c =
     let f = n .before .before in
     rw (f .before .before .before .if1 .left) (chose-append _ _ (answer f ∙ n .enum-told .given .1) _ (r .before .before .if2 .taken) (r .recolour .ensures))
 
--- src/line.rt:154:9
 nearest-entry-requires-2 : tie.Need-nearest-entry-requires-2
 nearest-entry-requires-2 c κs = search needs
 
--- src/line.rt:155:5
 recolour-requires-2 : tie.Need-recolour-requires-2
 recolour-requires-2 c κs =
     let m = c .before in
     let s = start (m .before .before .before .before .before) in
     omega (arith, m .nearest-entry2 .ensures, nearest-below (λ i. true) (paletteOf (s .args .palette .now) (s .args .k)) (s .args .c) (s .pre .1))
 
--- src/line.rt:137:1
 same-length-4 : tie.Need-same-length-4
 same-length-4 c = search needs
 
--- src/line.rt:137:1
 returns-4 : tie.Need-returns-4
 returns-4 c =
     let r = c .before .before in

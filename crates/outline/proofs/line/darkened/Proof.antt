@@ -1,13 +1,11 @@
+-- `outline::line::darkened` meets its contract. The same operations. Assumes nothing.
 use mathlib.Core.Path.{refl}
 use lib.Ieee.{round, ofBits}
 use Rattle.color.specs.Doubles.{decimal}
 use Rattle.rules.specs.Outline.{darkened}
 use Rattle.outline.proofs.line.darkened.Statement.{statement}
 use Rattle.outline.proofs.line.darkened.Tie as tie
-use Rattle.outline.proofs.line.darkened.Reads as reads
-use Rattle.outline.proofs.line.darkened.Lts as lts
 
--- src/line.rt:69:1
 returns : tie.Need-returns
 unfolding darkened decimal round ofBits
 returns c = refl

@@ -1,10 +1,10 @@
+-- `outline::line::darkest` meets its contract. The loop: the least of the entries before i. Assumes nothing.
 use Prim.Native.Nat.{ℕ, _-_, _≤_}
 use mathlib.Core.Path.{_≡_, refl, ap, _∙_}
 use mathlib.Core.Bool.{Bool, true}
 use mathlib.Core.List.{List}
 use native.Mathlib.Omega.{arith}
 use lib.Ieee.{Float}
-
 use Rattle.color.specs.Lab.{entry}
 use Rattle.rules.specs.Palette.{paletteOf, colour, firstLeast}
 use Rattle.rules.specs.Outline.{darkest}
@@ -12,10 +12,6 @@ use Rattle.outline.specs.Line.{held, placed}
 use Rattle.outline.proofs.Least.{least-none, least-more, placed-held}
 use Rattle.outline.proofs.line.darkest.Statement.{statement}
 use Rattle.outline.proofs.line.darkest.Tie as tie
-use Rattle.outline.proofs.line.darkest.Reads as reads
-use Rattle.outline.proofs.line.darkest.Lts as lts
-use Rattle.outline.proofs.line.lower.Reads as lower-reads
-use Rattle.outline.proofs.line.place.Reads as place-reads
 
 all : ℕ → Bool
 all i = true
@@ -29,50 +25,40 @@ Inv-loop palette k best₀ i₀ best i = (i ≤ k) × (best ≡ held (light pale
 abbrev μ-loop : tie.MeasureT-loop
 μ-loop palette k best₀ i₀ best i = k - i
 
--- src/line.rt:50:5
 loop-holds : tie.Need-loop-holds Inv-loop μ-loop
 loop-holds c = (omega arith, least-none _ _)
 
--- src/line.rt:51:39
 mul-lower : tie.Need-mul-lower Inv-loop μ-loop
 mul-lower c = omega arith
 
--- src/line.rt:51:31
 mul-lower-2 : tie.Need-mul-lower-2 Inv-loop μ-loop
 mul-lower-2 c = omega arith
 
--- src/line.rt:51:31
 shared-slice-read-lower : tie.Need-shared-slice-read-lower Inv-loop μ-loop
 shared-slice-read-lower c = omega arith
 
--- src/line.rt:51:9
 lower-requires : tie.Need-lower-requires Inv-loop μ-loop
 lower-requires c κs = tt
 
--- src/line.rt:50:9
 add-i : tie.Need-add-i Inv-loop μ-loop
 add-i c = omega arith
 
--- src/line.rt:50:5
 loop-less : tie.Need-loop-less Inv-loop μ-loop
 loop-less c = omega arith
 
--- src/line.rt:50:5
 loop-again : tie.Need-loop-again Inv-loop μ-loop
 unfolding all light colour entry
-loop-again c = 
+loop-again c =
     let l = c .before .before .before in
     let s = l .before .before in
     (omega arith, c .lower .ensures ∙ least-more all (light (s .args .palette .now) (s .args .k)) _ _ refl (l .loop .inv .1))
 
--- src/line.rt:53:5
 place-requires : tie.Need-place-requires Inv-loop μ-loop
 place-requires c κs = tt
 
--- src/line.rt:45:1
 returns : tie.Need-returns Inv-loop μ-loop
 unfolding all light darkest
-returns c = 
+returns c =
     let l = c .before .before in
     let s = l .before .before in
     let e : l .loop .i ≡ s .args .k = omega arith in

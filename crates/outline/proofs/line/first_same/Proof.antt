@@ -1,11 +1,11 @@
+-- `outline::line::first_same` meets its contract. The loop: no entry before i has the RGB8. Assumes nothing.
 use Prim.Native.Nat.{ℕ, _-_, _≤_}
 use mathlib.Core.Path.{_≡_, refl, sym, ap, _∙_}
-use mathlib.Core.Bool.{Bool, true, false}
+use mathlib.Core.Bool.{Bool}
 use mathlib.Core.List.{List}
 use mathlib.Core.Option.{none}
 use native.Mathlib.Omega.{arith}
 use lib.Ieee.{Float}
-use Rattle.color.specs.declared.Lab.{Lab}
 use Rattle.color.specs.declared.Rgb8.{Rgb8}
 use Rattle.color.specs.Lab.{labToRgb8}
 use Rattle.rules.specs.Palette.{paletteOf, colour, firstWhere}
@@ -14,11 +14,6 @@ use Rattle.outline.specs.Line.{found}
 use Rattle.outline.proofs.Least.{where-none, where-more, where-hit}
 use Rattle.outline.proofs.line.first_same.Statement.{statement}
 use Rattle.outline.proofs.line.first_same.Tie as tie
-use Rattle.outline.proofs.line.first_same.Reads as reads
-use Rattle.outline.proofs.line.first_same.Lts as lts
-use Rattle.color.proofs.cielab.entry.Reads as entry-reads
-use Rattle.color.proofs.cielab.lab_to_rgb8_one.Reads as lab-to-rgb8-one-reads
-use Rattle.outline.proofs.line.same_rgb8.Reads as same-rgb8-reads
 
 same : List Float → ℕ → Rgb8 → ℕ → Bool
 same l k rgb i = sameRgb8 (labToRgb8 (colour (paletteOf l k) i)) rgb
@@ -38,46 +33,37 @@ unfolding same colour start
 tested c e =
     ap (λ (x : Rgb8). sameRgb8 x (start c .args .rgb)) (sym (c .before .lab-to-rgb8-one .ensures ∙ ap labToRgb8 (c .before .before .entry .ensures))) ∙ sym (c .same-rgb8 .ensures) ∙ e
 
--- src/line.rt:112:5
 loop-holds : tie.Need-loop-holds Inv-loop μ-loop
 loop-holds c = (omega arith, where-none _)
 
--- src/line.rt:113:38
 entry-requires : tie.Need-entry-requires Inv-loop μ-loop
 entry-requires c κs = omega arith
 
--- src/line.rt:113:22
 lab-to-rgb8-one-requires : tie.Need-lab-to-rgb8-one-requires Inv-loop μ-loop
 lab-to-rgb8-one-requires c κs = tt
 
--- src/line.rt:113:12
 same-rgb8-requires : tie.Need-same-rgb8-requires Inv-loop μ-loop
 same-rgb8-requires c κs = tt
 
--- src/line.rt:114:13
 returns : tie.Need-returns Inv-loop μ-loop
 unfolding same found start
-returns c = 
+returns c =
     let l = c .before .before .before .before .before in
     sym (ap found (where-hit _ _ _ (c .before .before .before .before .loop-test .taken) (l .loop .inv .1) (tested (c .before) (c .if1 .taken))))
 
--- src/line.rt:112:9
 add-i : tie.Need-add-i Inv-loop μ-loop
 add-i c = omega arith
 
--- src/line.rt:112:5
 loop-less : tie.Need-loop-less Inv-loop μ-loop
 loop-less c = omega arith
 
--- src/line.rt:112:5
 loop-again : tie.Need-loop-again Inv-loop μ-loop
 unfolding start
 loop-again c = (omega arith, where-more _ _ (c .before .before .before .before .before .loop .inv .1) (tested (c .before) (c .if1 .left)))
 
--- src/line.rt:108:1
 returns-2 : tie.Need-returns-2 Inv-loop μ-loop
 unfolding same found
-returns-2 c = 
+returns-2 c =
     let e : c .before .loop .i ≡ c .before .before .before .args .k = omega arith in
     sym (ap found (rw e at (c .before .loop .inv .1)))
 

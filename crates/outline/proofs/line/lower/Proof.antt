@@ -1,30 +1,24 @@
-use mathlib.Core.Path.{_≡_, refl}
-use Rattle.outline.specs.Line.{lowered}
+-- `outline::line::lower` meets its contract. By what the scan held. Assumes nothing.
+use mathlib.Core.Path.{refl}
 use borrow.Author.Needs.{needs}
+use Rattle.outline.specs.Line.{lowered}
 use Rattle.outline.proofs.line.lower.Statement.{statement}
 use Rattle.outline.proofs.line.lower.Tie as tie
-use Rattle.outline.proofs.line.lower.Reads as reads
-use Rattle.outline.proofs.line.lower.Lts as lts
 
--- src/line.rt:29:27
 enum-told : tie.Need-enum-told
 enum-told c = search needs
 
--- src/line.rt:30:22
 enum-known-best : tie.Need-enum-known-best
 enum-known-best c = search needs
 
--- src/line.rt:25:1
 returns : tie.Need-returns
 unfolding lowered
 returns c = rw (c .enum-told .given .1)
 
--- src/line.rt:25:1
 returns-2 : tie.Need-returns-2
 unfolding lowered
 returns-2 c = rw (c .before .before .best .given .1, c .if1 .taken)
 
--- src/line.rt:25:1
 returns-3 : tie.Need-returns-3
 unfolding lowered
 returns-3 c = rw (c .before .before .best .given .1, c .if1 .left)

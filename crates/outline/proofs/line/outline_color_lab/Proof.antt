@@ -1,60 +1,45 @@
+-- `outline::line::outline_color_lab` meets its contract. By the outline's cases. Assumes nothing.
 use Prim.Native.Nat.{ℕ}
-use mathlib.Core.Path.{_≡_, refl, sym, ap, _∙_}
+use mathlib.Core.Path.{refl, ap, _∙_}
 use native.Mathlib.Omega.{arith}
+use borrow.Author.Needs.{needs}
 use Rattle.color.specs.declared.Lab.{Lab}
 use Rattle.rules.specs.Palette.{paletteOf, colour}
 use Rattle.rules.specs.Outline.{darkest, darkened, lineColour}
 use Rattle.outline.proofs.Least.{darkest-below}
-use borrow.Author.Needs.{needs}
 use Rattle.outline.proofs.line.outline_color_lab.Statement.{statement}
 use Rattle.outline.proofs.line.outline_color_lab.Tie as tie
-use Rattle.outline.proofs.line.outline_color_lab.Reads as reads
-use Rattle.outline.proofs.line.outline_color_lab.Lts as lts
-use Rattle.color.proofs.cielab.entry.Reads as entry-reads
-use Rattle.color.proofs.cielab.rgb8_to_lab_one.Reads as rgb8-to-lab-one-reads
-use Rattle.outline.proofs.line.darkened.Reads as darkened-reads
-use Rattle.outline.proofs.line.darkest.Reads as darkest-reads
 
--- src/line.rt:86:26
 enum-told : tie.Need-enum-told
 enum-told c = search needs
 
--- src/line.rt:86:26
 entry-requires : tie.Need-entry-requires
 entry-requires c κs = search needs
 
--- src/line.rt:87:23
 enum-known-outline : tie.Need-enum-known-outline
 enum-known-outline c = search needs
 
--- src/line.rt:88:17
 darkest-requires : tie.Need-darkest-requires
 darkest-requires c κs = search needs
 
--- src/line.rt:89:30
 entry-requires-2 : tie.Need-entry-requires-2
-entry-requires-2 c κs = 
+entry-requires-2 c κs =
     let s = c .before .before .before .before .before in
     omega (arith, c .darkest .ensures, darkest-below (paletteOf (s .args .palette .now) (s .args .k)) (s .pre .1))
 
--- src/line.rt:89:13
 darkened-requires : tie.Need-darkened-requires
 darkened-requires c κs = search needs
 
--- src/line.rt:91:22
 enum-known-outline-2 : tie.Need-enum-known-outline-2
 enum-known-outline-2 c = search needs
 
--- src/line.rt:91:34
 rgb8-to-lab-one-requires : tie.Need-rgb8-to-lab-one-requires
 rgb8-to-lab-one-requires c κs = search needs
 
--- src/line.rt:81:1
 returns : tie.Need-returns
 unfolding lineColour colour
 returns c = rw (c .before .enum-told .given .1) (c .entry .ensures)
 
--- src/line.rt:81:1
 returns-2 : tie.Need-returns-2
 unfolding lineColour colour
 returns-2 c =
@@ -65,7 +50,6 @@ returns-2 c =
     (c .darkened .ensures
     ∙ ap (λ (x : Lab). darkened (o .outline .given .0 .0) x) (c .before .entry2 .ensures ∙ ap (λ (i : ℕ). colour (paletteOf (s .args .palette .now) (s .args .k)) i) (d .darkest .ensures)))
 
--- src/line.rt:81:1
 returns-3 : tie.Need-returns-3
 unfolding lineColour
 returns-3 c = rw (c .before .before .outline2 .given .1) (c .rgb8-to-lab-one .ensures)

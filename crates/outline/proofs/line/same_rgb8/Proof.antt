@@ -1,22 +1,18 @@
+-- `outline::line::same_rgb8` meets its contract. Channel by channel. Assumes nothing.
 use mathlib.Core.Path.{refl}
 use borrow.Author.Tests.{eq-eqb, ne-eqb}
 use Rattle.rules.specs.Outline.{sameRgb8}
 use Rattle.outline.proofs.line.same_rgb8.Statement.{statement}
 use Rattle.outline.proofs.line.same_rgb8.Tie as tie
-use Rattle.outline.proofs.line.same_rgb8.Reads as reads
-use Rattle.outline.proofs.line.same_rgb8.Lts as lts
 
--- src/line.rt:99:9
 returns : tie.Need-returns
 unfolding sameRgb8
 returns c = rw (ne-eqb _ _ (c .if1 .taken))
 
--- src/line.rt:102:9
 returns-2 : tie.Need-returns-2
 unfolding sameRgb8
 returns-2 c = rw (eq-eqb _ _ (c .before .before .before .if1 .left), ne-eqb _ _ (c .if2 .taken))
 
--- src/line.rt:95:1
 returns-3 : tie.Need-returns-3
 unfolding sameRgb8
 returns-3 c = rw (eq-eqb _ _ (c .before .before .before .before .before .if1 .left), eq-eqb _ _ (c .before .before .if2 .left))

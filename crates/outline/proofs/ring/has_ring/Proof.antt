@@ -1,76 +1,64 @@
-use Prim.Native.Nat.{ℕ, _+_, _-_, _*_, _≤_, _<_}
-use mathlib.Core.Path.{_≡_, refl, sym, ap, _∙_}
+-- `outline::ring::has_ring` meets its contract. The loop: no cell before p is of the ring. Assumes nothing.
+use Prim.Native.Nat.{_-_, _*_, _≤_}
+use mathlib.Core.Path.{_≡_, refl, sym, _∙_}
+use mathlib.Core.Bool.{false}
 use native.Mathlib.Omega.{arith}
+use Rattle.base.specs.Places.{any}
 use Rattle.rules.specs.Sheet.{sheetOf, area}
 use Rattle.rules.specs.Outline.{ring, hasRing}
-use Rattle.outline.specs.Room.{Held}
-use Rattle.outline.proofs.Places.{area-fits}
-use Rattle.outline.proofs.Rings.{Walk, walk-start, walk-step, ring-found}
-
-use mathlib.Core.Bool.{false}
-use Rattle.base.specs.Places.{any}
+use Rattle.grid.proofs.Places.{area as area-fits}
 use Rattle.checks.proofs.Scans.{none-yet, none-more}
+use Rattle.outline.proofs.Rings.{Walk, walk-start, walk-step, ring-found}
 use Rattle.outline.proofs.ring.has_ring.Statement.{statement}
 use Rattle.outline.proofs.ring.has_ring.Tie as tie
-use Rattle.outline.proofs.ring.has_ring.Reads as reads
-use Rattle.outline.proofs.ring.has_ring.Lts as lts
-use Rattle.outline.proofs.canvas.after.Reads as after-reads
-use Rattle.outline.proofs.ring.ring_at.Reads as ring-at-reads
 
 abbrev Inv-loop : tie.InvT-loop
-Inv-loop cells h w n s₀ p₀ s p = (p ≤ h * w) × Walk h w (s .y) (s .x) p × (any p (ring (sheetOf cells h w)) ≡ false)
+Inv-loop cells h w count s₀ p₀ s p = (p ≤ h * w) × Walk h w (s .y) (s .x) p × (any p (ring (sheetOf cells h w)) ≡ false)
 
 abbrev μ-loop : tie.MeasureT-loop
-μ-loop cells h w n s₀ p₀ s p = h * w - p
+μ-loop cells h w count s₀ p₀ s p = h * w - p
 
--- src/ring.rt:43:13
-mul-n : tie.Need-mul-n Inv-loop μ-loop
-mul-n c = record { fits = omega (arith, area-fits _ _ (c .pre .high) (c .pre .wide)) }
+mul-count : tie.Need-mul-count Inv-loop μ-loop
+mul-count c = record { fits = omega (arith, area-fits _ _ (c .pre .high) (c .pre .wide)) }
 
--- src/ring.rt:45:5
 loop-holds : tie.Need-loop-holds Inv-loop μ-loop
 loop-holds c = (omega arith, walk-start _ _, none-yet _)
 
--- src/ring.rt:46:12
 ring-at-requires : tie.Need-ring-at-requires Inv-loop μ-loop
-ring-at-requires c κs = 
+ring-at-requires c κs =
     let k = c .before .loop .inv .1 .on (c .loop-test .taken) in
     (c .before .before .pre, (k .row, k .col, k .place))
 
--- src/ring.rt:47:13
 returns : tie.Need-returns Inv-loop μ-loop
 unfolding sheetOf
-returns c = 
+returns c =
     let l = c .before .before .before in
     sym (ring-found (sheetOf (l .before .args .cells .now) (l .before .args .h) (l .before .args .w)) (l .loop .p) (c .before .before .loop-test .taken) (sym (c .before .ring-at .ensures) ∙ c .if1 .taken))
 
--- src/ring.rt:49:9
 after-requires : tie.Need-after-requires Inv-loop μ-loop
-after-requires c κs = 
+after-requires c κs =
     let l = c .before .before .before in
     let k = l .loop .inv .1 .on (c .before .before .loop-test .taken) in
     (omega (arith, k .row, l .before .pre .high), k .col, l .before .pre .wide)
 
--- src/ring.rt:45:9
 add-p : tie.Need-add-p Inv-loop μ-loop
 add-p c = omega arith
 
--- src/ring.rt:45:5
 loop-less : tie.Need-loop-less Inv-loop μ-loop
 loop-less c = omega arith
 
--- src/ring.rt:45:5
 loop-again : tie.Need-loop-again Inv-loop μ-loop
-loop-again c = 
+loop-again c =
     let r = c .before .before in
-    let l = r .before .before in
-    (omega arith, walk-step (l .loop .inv .1) (r .before .loop-test .taken) _ _ (c .after .ensures .0) (c .after .ensures .1),
-    none-more _ _ (l .loop .inv .2) (sym (r .ring-at .ensures) ∙ c .before .if1 .left))
+    let l = r .before .before in (
+      omega arith,
+      walk-step (l .loop .inv .1) (r .before .loop-test .taken) _ _ (c .after .ensures .0) (c .after .ensures .1),
+      none-more _ _ (l .loop .inv .2) (sym (r .ring-at .ensures) ∙ c .before .if1 .left),
+    )
 
--- src/ring.rt:39:1
 returns-2 : tie.Need-returns-2 Inv-loop μ-loop
 unfolding hasRing sheetOf area
-returns-2 c = 
+returns-2 c =
     let s = c .before .before in
     let e : c .before .loop .p ≡ s .args .h * s .args .w = omega arith in
     sym (rw e at (c .before .loop .inv .2))
@@ -81,7 +69,7 @@ has-ring-spec =
     (tie.spec
     Inv-loop
     μ-loop
-    mul-n
+    mul-count
     loop-holds
     ring-at-requires
     returns

@@ -1,24 +1,18 @@
-use Prim.Native.Nat.{ℕ, _+_, _-_, _*_, _≤_, _<_}
-use mathlib.Core.Path.{_≡_, refl, sym, ap, _∙_}
-use native.Mathlib.Omega.{arith}
-use Rattle.rules.specs.Sheet.{sheetOf, area}
-use Rattle.rules.specs.Outline.{ring, hasRing}
-use Rattle.outline.specs.Room.{Held}
-use Rattle.outline.proofs.Places.{area-fits}
-use Rattle.outline.proofs.Rings.{Walk, walk-start, walk-step, ring-found}
-
+-- `outline::ring::mark_ring` meets its contract. The loop: the cells before p are marked. Assumes nothing.
+use Prim.Native.Nat.{ℕ, _-_, _*_, _≤_, _<_}
+use mathlib.Core.Path.{_≡_, refl, ap, _∙_}
 use mathlib.Core.Bool.{Bool, cond}
 use mathlib.Core.List.{List}
+use native.Mathlib.Omega.{arith}
 use lib.ListN.{length, set, length-set}
 use Rattle.base.specs.Outputs.{filled}
-use Rattle.base.proofs.Fills.{filled-none, filled-more, filled-length}
+use Rattle.base.proofs.Fills.{filled-none, filled-more}
+use Rattle.rules.specs.Sheet.{sheetOf}
+use Rattle.rules.specs.Outline.{ring}
+use Rattle.grid.proofs.Places.{area as area-fits}
+use Rattle.outline.proofs.Rings.{Walk, walk-start, walk-step}
 use Rattle.outline.proofs.ring.mark_ring.Statement.{statement}
 use Rattle.outline.proofs.ring.mark_ring.Tie as tie
-use Rattle.outline.proofs.ring.mark_ring.Reads as reads
-use Rattle.outline.proofs.ring.mark_ring.Lts as lts
-use Rattle.outline.proofs.canvas.after.Reads as after-reads
-use Rattle.outline.proofs.ring.mark.Reads as mark-reads
-use Rattle.outline.proofs.ring.ring_at.Reads as ring-at-reads
 
 abbrev Inv-loop : tie.InvT-loop
 Inv-loop cells h w marks₀ n s₀ p₀ marks s p = (p ≤ h * w) × Walk h w (s .y) (s .x) p × (marks ≡ filled p (λ q. cond (ring (sheetOf cells h w) q) 1 0) marks₀) × (length marks ≡ length marks₀)
@@ -31,33 +25,26 @@ room c =
     let l = c .before .before .before in
     omega (arith, l .loop .inv .3, c .before .before .loop-test .taken, l .before .before .pre .1)
 
--- src/ring.rt:67:13
 mul-n : tie.Need-mul-n Inv-loop μ-loop
 mul-n c = record { fits = omega (arith, area-fits _ _ (c .before .pre .0 .high) (c .before .pre .0 .wide)) }
 
--- src/ring.rt:69:5
 loop-holds : tie.Need-loop-holds Inv-loop μ-loop
 loop-holds c = (omega arith, walk-start _ _, filled-none _ _, refl)
 
--- src/ring.rt:70:22
 ring-at-requires : tie.Need-ring-at-requires Inv-loop μ-loop
 ring-at-requires c κs =
     let k = c .before .loop .inv .1 .on (c .loop-test .taken) in
     (c .before .before .before .pre .0, (k .row, k .col, k .place))
 
--- src/ring.rt:70:13
 mark-requires : tie.Need-mark-requires Inv-loop μ-loop
 mark-requires c κs = tt
 
--- src/ring.rt:71:9
 mul-marks : tie.Need-mul-marks Inv-loop μ-loop
 mul-marks c = record { fits = omega (arith, room c) }
 
--- src/ring.rt:71:9
 slice-write-marks : tie.Need-slice-write-marks Inv-loop μ-loop
 slice-write-marks c = omega (arith, room c)
 
--- src/ring.rt:72:9
 after-requires : tie.Need-after-requires Inv-loop μ-loop
 after-requires c κs =
     let l = c .before .before .before in
@@ -65,30 +52,27 @@ after-requires c κs =
     let s = l .before .before in
     (omega (arith, k .row, s .pre .0 .high), k .col, s .pre .0 .wide)
 
--- src/ring.rt:69:9
 add-p : tie.Need-add-p Inv-loop μ-loop
 add-p c = record { fits = omega (arith, room (c .before)) }
 
--- src/ring.rt:69:5
 loop-less : tie.Need-loop-less Inv-loop μ-loop
 loop-less c = omega arith
 
--- src/ring.rt:69:5
 loop-again : tie.Need-loop-again Inv-loop μ-loop
 loop-again c =
     let m = c .before in
     let l = m .before .before .before in
-    let v = l .loop .inv in
-    (omega arith, walk-step (v .1) (m .before .before .loop-test .taken) _ _ (c .after .ensures .0) (c .after .ensures .1),
-    ap (λ (k : List ℕ). set k (l .loop .p) (m .mark .result)) (v .2)
-    ∙ filled-more _ _ _ _ (omega (arith, room m, v .3)) (m .mark .ensures ∙ ap (λ (b : Bool). cond b 1 0) (m .before .ring-at .ensures)),
-    simp length-set (v .3))
+    let v = l .loop .inv in (
+      omega arith,
+      walk-step (v .1) (m .before .before .loop-test .taken) _ _ (c .after .ensures .0) (c .after .ensures .1),
+      ap (λ (k : List ℕ). set k (l .loop .p) (m .mark .result)) (v .2)
+          ∙ filled-more _ _ _ _ (omega (arith, room m, v .3)) (m .mark .ensures ∙ ap (λ (b : Bool). cond b 1 0) (m .before .ring-at .ensures)),
+      simp length-set (v .3),
+    )
 
--- src/ring.rt:62:1
 same-length : tie.Need-same-length Inv-loop μ-loop
 same-length c = c .before .loop .inv .3
 
--- src/ring.rt:62:1
 returns : tie.Need-returns Inv-loop μ-loop
 returns c =
     let s = c .before .before .before in

@@ -1,19 +1,15 @@
-use Prim.Native.Nat.{ℕ, _+_, _-_, _*_, _≤_, _<_}
-use mathlib.Core.Path.{_≡_, sym, ap, _∙_}
+-- `outline::ring::ring_at` meets its contract. The four cells beside it, one after the other. Assumes nothing.
+use Prim.Native.Nat.{_+_, _-_, _≤_, _<_}
+use mathlib.Core.Path.{_≡_, sym, _∙_}
 use mathlib.Core.Logic.{⊎-elim}
 use mathlib.Core.Bool.{false}
 use native.Mathlib.Omega.{arith}
 use borrow.Author.Tests.{le-ltb}
 use Rattle.rules.specs.Regions.{opaque}
-use Rattle.outline.specs.Room.{Held}
-use Rattle.outline.proofs.Places.{area-fits}
+use Rattle.grid.proofs.Places.{area as area-fits}
 use Rattle.outline.proofs.Rings.{Spotted, here-in, up-in, down-in, right-in, ring-opaque, ring-above, ring-below, ring-left, ring-right}
-use borrow.Author.Needs.{needs}
 use Rattle.outline.proofs.ring.ring_at.Statement.{statement}
 use Rattle.outline.proofs.ring.ring_at.Tie as tie
-use Rattle.outline.proofs.ring.ring_at.Reads as reads
-use Rattle.outline.proofs.ring.ring_at.Lts as lts
-use Rattle.outline.proofs.canvas.solid.Reads as solid-reads
 
 spot : (c : tie.Start) → Spotted (c .args .h) (c .args .w) (c .args .y) (c .args .x) (c .args .p)
 spot c = record { row = c .pre .1 .0; col = c .pre .1 .1; place = c .pre .1 .2 }
@@ -30,86 +26,69 @@ no-below c l = ⊎-elim (λ t. sym (t .1 .ensures) ∙ t .2 .left) (λ t. absurd
 no-left : (c : tie.Joined6) → 1 ≤ c .before .before .before .before .before .args .x → opaque (c .before .before .before .before .before .args .cells .now) (c .before .before .before .before .before .args .p - 1) ≡ false
 no-left c l = ⊎-elim (λ t. sym (t .1 .ensures) ∙ t .2 .left) (λ t. absurd (omega (arith, t .left))) (c .if6 .came)
 
--- src/ring.rt:23:8
 solid-requires : tie.Need-solid-requires
 solid-requires c κs = omega (arith, here-in (spot c), c .pre .0 .room)
 
--- src/ring.rt:24:9
 returns : tie.Need-returns
 returns c = sym (ring-opaque _ (spot (c .before .before)) (sym (c .before .solid .ensures) ∙ c .if1 .taken))
 
--- src/ring.rt:26:30
 sub-solid : tie.Need-sub-solid
 sub-solid c = up-in (spot (c .before .before .before)) (omega arith) .0
 
--- src/ring.rt:26:17
 solid-requires-2 : tie.Need-solid-requires-2
 solid-requires-2 c κs = omega (arith, up-in (spot (c .before .before .before)) (omega arith) .1, c .before .before .before .pre .0 .room)
 
--- src/ring.rt:27:9
 returns-2 : tie.Need-returns-2
-returns-2 c = 
+returns-2 c =
     let e = c .before .before .before in
     sym (ring-above _ (spot (e .before .before)) (clear e) (omega arith) (sym (c .before .solid2 .ensures) ∙ c .if3 .taken))
 
--- src/ring.rt:29:8
 add-if4 : tie.Need-add-if4
 add-if4 c = omega arith
 
--- src/ring.rt:29:34
 add-solid : tie.Need-add-solid
-add-solid c = 
+add-solid c =
     let s = c .before .before .before .before in
     record { fits = omega (arith, down-in (spot s) (omega arith), area-fits (s .args .h) (s .args .w) (s .pre .0 .high) (s .pre .0 .wide)) }
 
--- src/ring.rt:29:21
 solid-requires-3 : tie.Need-solid-requires-3
 solid-requires-3 c κs = omega (arith, down-in (spot (c .before .before .before .before)) (omega arith), c .before .before .before .before .pre .0 .room)
 
--- src/ring.rt:30:9
 returns-3 : tie.Need-returns-3
-returns-3 c = 
+returns-3 c =
     let e = c .before .before .before .before in
     sym (ring-below _ (spot (e .before .before)) (clear e) (omega arith) (sym (c .before .solid3 .ensures) ∙ c .if5 .taken))
 
--- src/ring.rt:32:30
 sub-solid-2 : tie.Need-sub-solid-2
 sub-solid-2 c = omega arith
 
--- src/ring.rt:32:17
 solid-requires-4 : tie.Need-solid-requires-4
 solid-requires-4 c κs = omega (arith, here-in (spot (c .before .before .before .before .before)), c .before .before .before .before .before .pre .0 .room)
 
--- src/ring.rt:33:9
 returns-4 : tie.Need-returns-4
-returns-4 c = 
+returns-4 c =
     let e = c .before .before .before .before .before in
     sym (ring-left _ (spot (e .before .before)) (clear e) (omega arith) (sym (c .before .solid4 .ensures) ∙ c .if7 .taken))
 
--- src/ring.rt:35:5
 add-if8 : tie.Need-add-if8
 add-if8 c = omega arith
 
--- src/ring.rt:35:31
 add-solid-2 : tie.Need-add-solid-2
-add-solid-2 c = 
+add-solid-2 c =
     let s = c .before .before .before .before .before .before in
     record { fits = omega (arith, right-in (spot s) (omega arith), area-fits (s .args .h) (s .args .w) (s .pre .0 .high) (s .pre .0 .wide)) }
 
--- src/ring.rt:35:18
 solid-requires-5 : tie.Need-solid-requires-5
 solid-requires-5 c κs = omega (arith, right-in (spot (c .before .before .before .before .before .before)) (omega arith), c .before .before .before .before .before .before .pre .0 .room)
 
--- src/ring.rt:18:1
 returns-5 : tie.Need-returns-5
-returns-5 c = 
+returns-5 c =
     let j = c .before .before in
     let e = j .before .before .before in
     ring-right _ (spot (e .before .before)) (clear e) (no-above (j .before .before)) (no-below (j .before)) (no-left j) _ (λ l. c .solid5 .ensures) (λ g. absurd (omega arith))
 
--- src/ring.rt:18:1
 returns-6 : tie.Need-returns-6
-returns-6 c = 
+returns-6 c =
     let j = c .before in
     let e = j .before .before .before in
     ring-right _ (spot (e .before .before)) (clear e) (no-above (j .before .before)) (no-below (j .before)) (no-left j) _ (λ l. absurd (omega arith)) (λ g. le-ltb _ _ g)

@@ -1,34 +1,27 @@
-use mathlib.Core.Path.{_≡_, refl, sym, ap, _∙_}
-use Rattle.rules.specs.Outline.{asked}
+-- `outline::rows::asked` meets its contract. By the outline's cases. Assumes nothing.
+use mathlib.Core.Path.{refl}
 use borrow.Author.Needs.{needs}
+use Rattle.rules.specs.Outline.{asked}
 use Rattle.outline.proofs.rows.asked.Statement.{statement}
 use Rattle.outline.proofs.rows.asked.Tie as tie
-use Rattle.outline.proofs.rows.asked.Reads as reads
-use Rattle.outline.proofs.rows.asked.Lts as lts
 
--- src/rows.rt:24:26
 enum-told : tie.Need-enum-told
 enum-told c = search needs
 
--- src/rows.rt:25:29
 enum-told-2 : tie.Need-enum-told-2
 enum-told-2 c = search needs
 
--- src/rows.rt:26:34
 enum-told-3 : tie.Need-enum-told-3
 enum-told-3 c = search needs
 
--- src/rows.rt:20:1
 returns : tie.Need-returns
 unfolding asked
 returns c = rw (c .enum-told .given .1)
 
--- src/rows.rt:20:1
 returns-2 : tie.Need-returns-2
 unfolding asked
 returns-2 c = rw (c .enum-told2 .given .1)
 
--- src/rows.rt:20:1
 returns-3 : tie.Need-returns-3
 unfolding asked
 returns-3 c = rw (c .enum-told3 .given .1)

@@ -1,23 +1,16 @@
-use mathlib.Core.Path.{_≡_, refl, sym, ap, _∙_}
-
+-- `outline::rows::line_refusal` meets its contract. Row after row. Assumes nothing.
+use mathlib.Core.Path.{_≡_, sym, _∙_}
 use mathlib.Core.Bool.{true, false}
 use native.Mathlib.Omega.{arith}
+use borrow.Author.Tests.{not-true, not-false}
+use borrow.Author.Needs.{needs}
 use Rattle.rules.specs.Palette.{paletteOf, outOfRange}
 use Rattle.rules.specs.Outline.{asked}
 use Rattle.rules.specs.Rows.{badPalette, badDarkening}
 use Rattle.checks.proofs.Rows.{good-palette}
-use borrow.Author.Tests.{not-true, not-false}
 use Rattle.outline.proofs.Refusing.{row-4, row-5, row-6-none, row-6-dark, row-8, past-8}
-use borrow.Author.Needs.{needs}
 use Rattle.outline.proofs.rows.line_refusal.Statement.{statement}
 use Rattle.outline.proofs.rows.line_refusal.Tie as tie
-use Rattle.outline.proofs.rows.line_refusal.Reads as reads
-use Rattle.outline.proofs.rows.line_refusal.Lts as lts
-use Rattle.checks.proofs.bad_colour.Reads as bad-colour-reads
-use Rattle.checks.proofs.bad_darkening.Reads as bad-darkening-reads
-use Rattle.checks.proofs.bad_palette.Reads as bad-palette-reads
-use Rattle.outline.proofs.rows.asked.Reads as asked-reads
-use Rattle.outline.proofs.rows.no_entry.Reads as no-entry-reads
 
 abbrev start : tie.Else1 → tie.Start
 start c = c .before .before .before
@@ -37,47 +30,36 @@ is-asked c = sym (c .before .asked .ensures) ∙ not-false (c .before .asked .re
 not-6 : (c : tie.Else4) → badDarkening (start (first (c .before .before .before .before)) .args .outline) ≡ false
 not-6 c = sym (c .before .bad-darkening .ensures) ∙ c .if4 .left
 
--- src/rows.rt:143:8
 bad-palette-requires : tie.Need-bad-palette-requires
 bad-palette-requires c κs = search needs
 
--- src/rows.rt:144:9
 returns : tie.Need-returns
 returns c = row-4 _ _ _ _ (sym (c .before .bad-palette .ensures) ∙ c .if1 .taken)
 
--- src/rows.rt:146:8
 bad-colour-requires : tie.Need-bad-colour-requires
 bad-colour-requires c κs = let k = good-palette _ (not-4 c) in (omega arith, omega arith)
 
--- src/rows.rt:147:9
 returns-2 : tie.Need-returns-2
 returns-2 c = row-5 _ _ _ _ (not-4 (c .before .before)) (sym (c .before .bad-colour .ensures) ∙ c .if2 .taken)
 
--- src/rows.rt:149:9
 asked-requires : tie.Need-asked-requires
 asked-requires c κs = search needs
 
--- src/rows.rt:150:9
 returns-3 : tie.Need-returns-3
 returns-3 c = row-6-none _ _ _ _ (not-4 (first (c .before .before))) (not-5 (c .before .before)) (sym (c .before .asked .ensures) ∙ not-true (c .before .asked .result) (c .if3 .taken))
 
--- src/rows.rt:152:8
 bad-darkening-requires : tie.Need-bad-darkening-requires
 bad-darkening-requires c κs = search needs
 
--- src/rows.rt:153:9
 returns-4 : tie.Need-returns-4
 returns-4 c = let a = c .before .before in row-6-dark _ _ _ _ (not-4 (first (a .before .before))) (not-5 (a .before .before)) (is-asked a) (sym (c .before .bad-darkening .ensures) ∙ c .if4 .taken)
 
--- src/rows.rt:155:8
 no-entry-requires : tie.Need-no-entry-requires
 no-entry-requires c κs = search needs
 
--- src/rows.rt:156:9
 returns-5 : tie.Need-returns-5
 returns-5 c = let d = c .before .before in let a = d .before .before in row-8 _ _ _ _ (not-4 (first (a .before .before))) (not-5 (a .before .before)) (is-asked a) (not-6 d) (sym (c .before .no-entry .ensures) ∙ c .if5 .taken)
 
--- src/rows.rt:124:1
 returns-6 : tie.Need-returns-6
 returns-6 c = let d = c .before .before in let a = d .before .before in past-8 _ _ _ _ (not-4 (first (a .before .before))) (not-5 (a .before .before)) (is-asked a) (not-6 d) (sym (c .before .no-entry .ensures) ∙ c .if5 .left)
 

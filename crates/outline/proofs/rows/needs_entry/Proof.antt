@@ -1,35 +1,28 @@
-use mathlib.Core.Path.{_≡_, refl, sym, ap, _∙_}
+-- `outline::rows::needs_entry` meets its contract. By the outline's cases. Assumes nothing.
+use mathlib.Core.Path.{refl}
+use borrow.Author.Needs.{needs}
 use Rattle.rules.specs.Outline.{asked}
 use Rattle.rules.specs.Rows.{isAuto}
-use borrow.Author.Needs.{needs}
 use Rattle.outline.proofs.rows.needs_entry.Statement.{statement}
 use Rattle.outline.proofs.rows.needs_entry.Tie as tie
-use Rattle.outline.proofs.rows.needs_entry.Reads as reads
-use Rattle.outline.proofs.rows.needs_entry.Lts as lts
 
--- src/rows.rt:91:26
 enum-told : tie.Need-enum-told
 enum-told c = search needs
 
--- src/rows.rt:92:29
 enum-told-2 : tie.Need-enum-told-2
 enum-told-2 c = search needs
 
--- src/rows.rt:93:34
 enum-told-3 : tie.Need-enum-told-3
 enum-told-3 c = search needs
 
--- src/rows.rt:87:1
 returns : tie.Need-returns
 unfolding asked isAuto
 returns c = rw (c .enum-told .given .1)
 
--- src/rows.rt:87:1
 returns-2 : tie.Need-returns-2
 unfolding asked isAuto
 returns-2 c = rw (c .enum-told2 .given .1)
 
--- src/rows.rt:87:1
 returns-3 : tie.Need-returns-3
 unfolding asked isAuto
 returns-3 c = rw (c .enum-told3 .given .1)

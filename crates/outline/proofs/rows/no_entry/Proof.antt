@@ -1,16 +1,12 @@
-use mathlib.Core.Path.{_≡_, refl, sym, ap, _∙_}
-
+-- `outline::rows::no_entry` meets its contract. The tests in the order of the code. Assumes nothing.
+use mathlib.Core.Path.{_≡_, sym, _∙_}
 use borrow.Author.Tests.{not-true, not-false}
+use borrow.Author.Needs.{needs}
 use Rattle.rules.specs.Sheet.{Sheet, sheetOf}
 use Rattle.rules.specs.Outline.{canvas, hasRing}
 use Rattle.outline.proofs.Refusing.{no-entry, some-entry, none-needed, one-needed, ring-padded, ring-plain}
-use borrow.Author.Needs.{needs}
 use Rattle.outline.proofs.rows.no_entry.Statement.{statement}
 use Rattle.outline.proofs.rows.no_entry.Tie as tie
-use Rattle.outline.proofs.rows.no_entry.Reads as reads
-use Rattle.outline.proofs.rows.no_entry.Lts as lts
-use Rattle.outline.proofs.ring.has_ring.Reads as has-ring-reads
-use Rattle.outline.proofs.rows.needs_entry.Reads as needs-entry-reads
 
 abbrev start : tie.Else2 → tie.Start
 start c = c .before .before .before
@@ -23,17 +19,14 @@ needed c =
     one-needed (start c .args .outline) (start c .args .fixed) (start c .args .k) (on c) (c .before .before .if1 .left)
     (sym (c .before .needs-entry .ensures) ∙ not-false (c .before .needs-entry .result) (c .if2 .left))
 
--- src/rows.rt:112:9
 returns : tie.Need-returns
 returns c =
     let s = c .before .args in
     sym (some-entry (s .outline) (s .fixed) (s .k) (canvas (s .padding) (sheetOf (s .cells .now) (s .h) (s .w))) (c .if1 .taken))
 
--- src/rows.rt:114:9
 needs-entry-requires : tie.Need-needs-entry-requires
 needs-entry-requires c κs = search needs
 
--- src/rows.rt:115:9
 returns-2 : tie.Need-returns-2
 returns-2 c =
     let n = c .before in
@@ -41,18 +34,15 @@ returns-2 c =
     sym (none-needed (s .outline) (s .fixed) (s .k) (canvas (s .padding) (sheetOf (s .cells .now) (s .h) (s .w))) (n .before .if1 .left)
     (sym (n .needs-entry .ensures) ∙ not-true (n .needs-entry .result) (c .if2 .taken)))
 
--- src/rows.rt:118:9
 returns-3 : tie.Need-returns-3
 returns-3 c =
     let n = c .before .before in
     let s = n .before .before in
     sym (needed (c .before) ∙ ring-padded (s .args .padding) _ (c .if3 .taken) (s .pre .1))
 
--- src/rows.rt:120:5
 has-ring-requires : tie.Need-has-ring-requires
 has-ring-requires c κs = search needs
 
--- src/rows.rt:98:1
 returns-4 : tie.Need-returns-4
 returns-4 c =
     let e = c .before .before in

@@ -1,25 +1,17 @@
-use Prim.Native.Nat.{ℕ, _*_, _≤_}
-
+-- `outline::rows::sheet_refusal` meets its contract. Row after row. Assumes nothing.
+use Prim.Native.Nat.{_≤_}
 use mathlib.Core.Path.{_≡_, refl, sym, ap, _∙_}
-
 use mathlib.Core.Bool.{Bool, false, _&&_}
 use native.Mathlib.Omega.{arith}
-use Rattle.outline.specs.Room.{Held}
-use Rattle.outline.proofs.Places.{area-fits}
+use borrow.Author.Needs.{needs}
 use Rattle.rules.specs.Sheet.{sheetOf, needed}
 use Rattle.rules.specs.Outline.{asked, pads}
 use Rattle.rules.specs.Rows.{tooLarge}
+use Rattle.grid.proofs.Places.{area as area-fits}
 use Rattle.checks.proofs.Rows.{not-large}
 use Rattle.outline.proofs.Refusing.{needed-least, row-1, row-2, row-3, past-3}
-use borrow.Author.Needs.{needs}
 use Rattle.outline.proofs.rows.sheet_refusal.Statement.{statement}
 use Rattle.outline.proofs.rows.sheet_refusal.Tie as tie
-use Rattle.outline.proofs.rows.sheet_refusal.Reads as reads
-use Rattle.outline.proofs.rows.sheet_refusal.Lts as lts
-use Rattle.checks.proofs.too_large.Reads as too-large-reads
-use Rattle.outline.proofs.canvas.touches_edge.Reads as touches-edge-reads
-use Rattle.outline.proofs.rows.needed.Reads as needed-reads
-use Rattle.outline.proofs.rows.pads.Reads as pads-reads
 
 not-1 : (c : tie.Else1) → tooLarge (c .before .before .args .h) (c .before .before .args .w) .applies ≡ false
 not-1 c = sym (c .before .too-large .ensures) ∙ c .if1 .left
@@ -37,49 +29,38 @@ need-is : (c : tie.After-needed) → c .needed .result ≡ needed (start c .args
 unfolding pads
 need-is c = c .needed .ensures ∙ ap (needed (start c .args .h) (start c .args .w)) (c .before .pads .ensures ∙ ap (λ (t : Bool). start c .args .allowed && asked (start c .args .outline) && t) (c .before .before .touches-edge .ensures))
 
--- src/rows.rt:69:8
 too-large-requires : tie.Need-too-large-requires
 too-large-requires c κs = search needs
 
--- src/rows.rt:70:9
 returns : tie.Need-returns
 returns c = row-1 _ _ _ _ _ (sym (c .before .too-large .ensures) ∙ c .if1 .taken)
 
--- src/rows.rt:72:22
 mul-if2 : tie.Need-mul-if2
 mul-if2 c = let k = sides c in record { fits = omega (arith, area-fits (c .before .before .args .h) (c .before .before .args .w) (omega arith) (omega arith)) }
 
--- src/rows.rt:73:9
 returns-2 : tie.Need-returns-2
 returns-2 c =
     let s = c .before .before .before in
     row-2 _ _ _ _ _ (not-1 (c .before)) (omega (arith, needed-least (s .args .h) (s .args .w) (pads (s .args .allowed) (s .args .outline) (sheetOf (s .args .cells .now) (s .args .h) (s .args .w)))))
 
--- src/rows.rt:75:42
 touches-edge-requires : tie.Need-touches-edge-requires
 touches-edge-requires c κs = let k = sides (c .before) in record { high = omega arith; wide = omega arith; room = omega arith }
 
--- src/rows.rt:75:9
 pads-requires : tie.Need-pads-requires
 pads-requires c κs = search needs
 
--- src/rows.rt:76:9
 needed-requires : tie.Need-needed-requires
 needed-requires c κs = sides (c .before .before .before)
 
--- src/rows.rt:78:9
 returns-3 : tie.Need-returns-3
 returns-3 c = row-2 _ _ _ _ _ (not-1 (begun (c .before))) (rw (need-is (c .before)) at (c .if3 .taken))
 
--- src/rows.rt:80:15
 mul-if4 : tie.Need-mul-if4
 mul-if4 c = search needs
 
--- src/rows.rt:81:9
 returns-4 : tie.Need-returns-4
 returns-4 c = row-3 _ _ _ _ _ (not-1 (begun (c .before .before))) (rw (need-is (c .before .before)) at (c .before .if3 .left)) (rw (need-is (c .before .before)) at (c .if4 .taken))
 
--- src/rows.rt:55:1
 returns-5 : tie.Need-returns-5
 returns-5 c = past-3 _ _ _ _ _ (not-1 (begun (c .before .before))) (rw (need-is (c .before .before)) at (c .before .if3 .left)) (rw (need-is (c .before .before)) at (c .if4 .left))
 

@@ -1,0 +1,12 @@
+pub mod Choosing
+pub mod Regions
+pub mod Desks
+pub mod Votes
+pub mod Verdicts
+pub mod Painting
+pub mod Deciding
+pub mod Passes
+pub mod Cleaning
+pub mod Alike
+pub mod Storing
+pub mod Refusing

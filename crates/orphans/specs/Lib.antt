@@ -1,0 +1,4 @@
+pub mod Choice
+pub mod Polling
+pub mod Passing
+pub mod Entry
