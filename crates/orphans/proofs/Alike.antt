@@ -1,5 +1,5 @@
 -- Sheets that differ only in how their transparent cells are written are cleaned alike. Assumes nothing.
-use Prim.Native.Nat.{ℕ, zero, suc, _+_, _-_, _<_}
+use Prim.Native.Nat.{ℕ, zero, suc, _-_, _<_}
 use mathlib.Core.Path.{_≡_, refl, sym, ap, ap₂, fun-ext, _∙_, subst}
 use mathlib.Core.Bool.{Bool, true, false, not, _&&_, _||_}
 use mathlib.Core.List.{List}
@@ -9,11 +9,11 @@ use native.Mathlib.Omega.{arith}
 use lib.Dec.{eqb, ltb}
 use lib.IntN.{ℤ, pos, negsuc}
 use lib.Signed.{ltZ}
-use lib.ListN.{length, getD, List·getD-eq-default}
+use lib.ListN.{getD, List·getD-eq-default}
 use Rattle.base.specs.Places.{table, any, count, greatest}
 use Rattle.base.proofs.Counting.{case, table-at, table-length}
-use Rattle.rules.specs.Regions.{at, opaque, index, held, roots, inside, first}
-use Rattle.rules.specs.Pass.{Rule, State, View, marked, size, few, isLarge, view, Verdict, stay, merge, freeze, votes, most, frequent, choose, target, top, judged, voter, pending, decided, verdict, painted, freezes, fates, fate, applied, pass, moves, Cleaned, clean}
+use Rattle.rules.specs.Regions.{at, index, held, roots, inside, first}
+use Rattle.rules.specs.Pass.{Rule, State, View, marked, size, few, isLarge, view, Verdict, stay, merge, freeze, votes, most, frequent, choose, target, top, voter, pending, decided, verdict, painted, freezes, fates, fate, applied, pass, moves, Cleaned, clean}
 use Rattle.rules.proofs.Runs.{clean-go, clean-stop}
 use Rattle.grid.specs.Planes.{paintOf}
 use Rattle.grid.proofs.Planes.{same-opaque, same-roots}

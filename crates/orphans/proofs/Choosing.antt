@@ -1,5 +1,5 @@
 -- The choice among indices, step by step as the code makes it, and that it is the rules' choice. Assumes nothing.
-use Prim.Native.Nat.{ℕ, zero, suc, _+_, _≤_, _<_, max, zero-le, suc-le-suc}
+use Prim.Native.Nat.{ℕ, zero, suc, _+_, _≤_, _<_, zero-le}
 use mathlib.Core.Path.{_≡_, refl, sym, ap, _∙_, subst}
 use mathlib.Core.Logic.{⊎-elim}
 use mathlib.Core.Bool.{Bool, true, false, _&&_, cond}
@@ -13,11 +13,10 @@ use lib.Dec.{eqb, ltb}
 use lib.Ieee.{Float, lt}
 use lib.IntN.{ℤ}
 use lib.ListN.{getD}
-use Rattle.base.specs.Places.{greatest, count}
+use Rattle.base.specs.Places.{greatest}
 use Rattle.base.proofs.Counting.{case, clash, left, right, both, same-test, eqb-yes, yes-eqb, leb-yes, yes-leb, no-leb, count-yes, greatest-above, greatest-is}
-use Rattle.rules.specs.Regions.{at, opaque, index}
-use Rattle.rules.specs.Pass.{Rule, View, marked, Verdict, stay, merge, freeze, votes, most, frequent, choose, target, top, judged}
-use Rattle.rules.proofs.More.{target-past}
+use Rattle.rules.specs.Regions.{at, index}
+use Rattle.rules.specs.Pass.{Rule, marked, votes, most, frequent, choose, target, judged}
 use Rattle.orphans.specs.declared.Target.{Target}
 use Rattle.orphans.specs.declared.Target.the-variants.{Nothing, Index}
 use Rattle.orphans.specs.Choice.{peak, nearer, nearest, decision, choice}

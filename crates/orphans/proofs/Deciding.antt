@@ -1,18 +1,18 @@
 -- Regions judged one after the other: what a verdict reads stays as it was. Assumes nothing.
-use Prim.Native.Nat.{ℕ, _+_, _*_, _≤_, _<_}
-use mathlib.Core.Path.{_≡_, refl, sym, ap, _∙_}
-use mathlib.Core.Bool.{Bool, false, not}
+use Prim.Native.Nat.{ℕ, _+_, _*_, _<_}
+use mathlib.Core.Path.{_≡_, refl, ap, _∙_}
+use mathlib.Core.Bool.{false, not}
 use mathlib.Core.List.{List}
 use native.Mathlib.Nat.{not-suc-le-zero}
 use native.Mathlib.Decide.{ℕ-discrete}
 use native.Mathlib.Omega.{arith}
 use lib.Dec.{eqb}
 use lib.Ieee.{Float}
-use lib.ListN.{length, set, length-set}
-use Rattle.rules.specs.Pass.{Rule, State}
+use lib.ListN.{set}
+use Rattle.rules.specs.Pass.{Rule}
 use Rattle.rules.specs.Masks.{regions}
 use Rattle.grid.specs.Steps.{hood}
-use Rattle.grid.specs.Planes.{plane, cellsOf, endOf}
+use Rattle.grid.specs.Planes.{plane, cellsOf}
 use Rattle.grid.proofs.Planes.{plane-same, plane-else, plane-other}
 use Rattle.orphans.specs.Polling.{Desk, Kept}
 use Rattle.orphans.specs.Passing.{ruleOf, stateOf, Indexed, ruled, Judged, Decided}

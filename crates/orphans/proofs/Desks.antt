@@ -1,26 +1,25 @@
 -- What the planes 0 to 4 tell stays while only the others are written. Assumes nothing.
 use Prim.Native.Nat.{ℕ, zero, suc, _+_, _-_, _*_, _≤_, _<_}
-use mathlib.Core.Path.{_≡_, refl, sym, ap, ap₂, _∙_, subst}
-use mathlib.Core.Logic.{_⊎_, inl, inr, ⊎-elim, _↔_}
-use mathlib.Core.Bool.{Bool, true, false, not, _&&_}
+use mathlib.Core.Path.{_≡_, refl, sym, ap, _∙_}
+use mathlib.Core.Bool.{Bool, true, false, not}
 use mathlib.Core.List.{List}
 use native.Mathlib.Nat.{le-refl}
 use native.Mathlib.Numerals.{add-one}
 use native.Mathlib.Omega.{arith}
 use borrow.Author.Tests.{eq-eqb, ne-eqb}
 use lib.Dec.{eqb, leb}
-use lib.IntN.{ℤ, pos, negsuc}
+use lib.IntN.{ℤ, negsuc}
 use lib.Signed.{nonNeg}
 use lib.ListN.{length, getD, set, length-set}
 use lib.Seq.{ext-getD}
 use Rattle.base.specs.Places.{table, any}
-use Rattle.base.proofs.Counting.{clash, not-true, yes-eqb, table-at, table-length, yes-any}
+use Rattle.base.proofs.Counting.{clash, table-at, table-length, yes-any}
 use Rattle.rules.specs.Regions.{at, opaque, index, Symmetric}
 use Rattle.rules.specs.Masks as masks
 use Rattle.grid.specs.Steps.{hood}
 use Rattle.grid.specs.Planes.{plane, cellOf, cellsOf, groupAt, endOf, Labelled}
 use Rattle.grid.proofs.Places.{area, hood-symmetric}
-use Rattle.grid.proofs.Planes.{plane-other}
+use Rattle.grid.proofs.Planes.{plane-other, cells-size, cells-at}
 use Rattle.orphans.specs.Polling.{Desk, Ready, sizeOf, big, frozenAmong, Kept}
 use Rattle.orphans.proofs.Regions.{regions-le, label-in, not-empty, shown, big-is}
 
@@ -95,19 +94,6 @@ unfolding endOf plane
 end-read n zero a z = absurd (z refl)
 end-read n (suc k) a z = let e : suc k - 1 ≡ k = omega arith in rw e
 
-pub cell-at : (n : ℕ) (a : List ℕ) (q : ℕ) → q < n → at (cellsOf n a) q ≡ cellOf (plane n 0 a q)
-unfolding at cellsOf
-cell-at n a q h = table-at n _ (negsuc 0) q h
-
-cell-test : (v : ℕ) → nonNeg (cellOf v) ≡ not (eqb v 0)
-unfolding cellOf
-cell-test zero = refl
-cell-test (suc i) = rw (ne-eqb (suc i) 0 (λ e. omega arith))
-
-pub opaque-paint : (n : ℕ) (a : List ℕ) (q : ℕ) → q < n → opaque (cellsOf n a) q ≡ not (eqb (plane n 0 a q) 0)
-unfolding opaque
-opaque-paint n a q h = ap nonNeg (cell-at n a q h) ∙ cell-test (plane n 0 a q)
-
 -- what a paint says of an opaque cell
 paint-index : (v : ℕ) → nonNeg (cellOf v) ≡ true → v ≡ index (cellOf v) + 1
 unfolding cellOf index
@@ -116,7 +102,7 @@ paint-index (suc i) o = omega arith
 
 pub index-is : (n : ℕ) (a : List ℕ) (q : ℕ) → q < n → opaque (cellsOf n a) q ≡ true → plane n 0 a q ≡ index (at (cellsOf n a) q) + 1
 unfolding opaque
-index-is n a q l o = let e = cell-at n a q l in paint-index (plane n 0 a q) (rw e at o) ∙ ap (λ (z : ℤ). index z + 1) (sym e)
+index-is n a q l o = let e = cells-at n a q l in paint-index (plane n 0 a q) (rw e at o) ∙ ap (λ (z : ℤ). index z + 1) (sym e)
 
 module _ (n limit : ℕ) (a : List ℕ) (q : ℕ) where
   pub big-none : plane n 1 a q ≡ 0 → false ≡ big n limit a q
@@ -132,10 +118,6 @@ module _ (n limit : ℕ) (a : List ℕ) (q : ℕ) where
 
 -- ---- the desk
 
-pub cells-length : (n : ℕ) (a : List ℕ) → length (cellsOf n a) ≡ n
-unfolding cellsOf
-cells-length n a = table-length n _
-
 module _ (h w steps : ℕ) (a : List ℕ) (desk : Desk h w steps a) where
   abbrev n : ℕ
   n = h * w
@@ -147,13 +129,13 @@ module _ (h w steps : ℕ) (a : List ℕ) (desk : Desk h w steps a) where
   cells = cellsOf n a
 
   painted : (q : ℕ) → q < n → opaque cells q ≡ true → 1 ≤ plane n 0 a q
-  painted q l o = let z = not-true (sym (opaque-paint n a q l) ∙ o) in let f : plane n 0 a q ≡ 0 → ⊥ = (λ e. clash (yes-eqb {m = plane n 0 a q} {n = 0} e) z) in omega arith
+  painted q l o = let e = index-is n a q l o in omega arith
 
   rises : (q : ℕ) → q < n → (l : ℕ) → plane n 1 a q ≡ l → endOf n a (l - 1) ≤ endOf n a l
   rises q lq zero e = le-refl _
   rises q lq (suc k) e =
-      let t = label-in n (hood steps w) cells a (desk .regions) (desk .taken) (cells-length n a) symmetric (desk .labelled) q lq in
-      let g = not-empty n (hood steps w) cells a (desk .regions) (desk .taken) (cells-length n a) symmetric (desk .labelled) k (omega arith) in
+      let t = label-in n (hood steps w) cells a (desk .regions) (desk .taken) (cells-size n a) symmetric (desk .labelled) q lq in
+      let g = not-empty n (hood steps w) cells a (desk .regions) (desk .taken) (cells-size n a) symmetric (desk .labelled) k (omega arith) in
       let d : suc k - 1 ≡ k = omega arith in
       rw d (omega arith)
 
@@ -161,9 +143,9 @@ module _ (h w steps : ℕ) (a : List ℕ) (desk : Desk h w steps a) where
   desk-ready = record {
     few = area h w (desk .rows) (desk .cols);
     room = desk .room;
-    named = λ q l. omega (arith, label-in n (hood steps w) cells a (desk .regions) (desk .taken) (cells-length n a) symmetric (desk .labelled) q l, regions-le n (hood steps w) cells a (desk .regions) (desk .taken) (cells-length n a) symmetric (desk .labelled));
+    named = λ q l. omega (arith, label-in n (hood steps w) cells a (desk .regions) (desk .taken) (cells-size n a) symmetric (desk .labelled) q l, regions-le n (hood steps w) cells a (desk .regions) (desk .taken) (cells-size n a) symmetric (desk .labelled));
     rising = λ q l. rises q l (plane n 1 a q) refl;
-    shown = λ q l z. painted q l (shown n (hood steps w) cells a (desk .regions) (desk .taken) (cells-length n a) symmetric (desk .labelled) q l z);
+    shown = λ q l z. painted q l (shown n (hood steps w) cells a (desk .regions) (desk .taken) (cells-size n a) symmetric (desk .labelled) q l z);
     paint = desk .paint;
   }
 
@@ -177,14 +159,14 @@ module _ (h w steps : ℕ) (a : List ℕ) (desk : Desk h w steps a) where
       paint = λ q l. rw (u .same 0 q (omega arith) l) (desk .paint q l);
       regions = desk .regions;
       taken = desk .taken;
-      labelled = rw (cells-kept u) (labelled-kept (hood steps w) (cellsOf n a) n a (desk .regions) (desk .taken) (cells-length n a) symmetric (desk .labelled) b u);
+      labelled = rw (cells-kept u) (labelled-kept (hood steps w) (cellsOf n a) n a (desk .regions) (desk .taken) (cells-size n a) symmetric (desk .labelled) b u);
     }
 
     pub desk-lead : (t : ℕ) → t < desk .regions → plane n 2 b (endOf n b t) ≡ plane n 2 a (endOf n a t)
-    desk-lead = lead-kept (hood steps w) (cellsOf n a) n a (desk .regions) (desk .taken) (cells-length n a) symmetric (desk .labelled) b u
+    desk-lead = lead-kept (hood steps w) (cellsOf n a) n a (desk .regions) (desk .taken) (cells-size n a) symmetric (desk .labelled) b u
 
     pub desk-big : (limit q : ℕ) → q < n → big n limit b q ≡ big n limit a q
-    desk-big = big-kept (hood steps w) (cellsOf n a) n a (desk .regions) (desk .taken) (cells-length n a) symmetric (desk .labelled) b u
+    desk-big = big-kept (hood steps w) (cellsOf n a) n a (desk .regions) (desk .taken) (cells-size n a) symmetric (desk .labelled) b u
 
 -- ---- looking for a frozen place
 

@@ -1,16 +1,16 @@
 -- Numbers wiped, and places that take their verdicts, one after the other. Assumes nothing.
 use Prim.Native.Nat.{ℕ, zero, suc, _+_, _-_, _*_, _≤_, _<_}
 use mathlib.Core.Path.{_≡_, refl, sym, ap, _∙_, subst}
-use mathlib.Core.Logic.{_⊎_, inl, inr, ⊎-elim}
-use mathlib.Core.Bool.{Bool, true, false, _||_, cond}
+use mathlib.Core.Logic.{inl, inr, ⊎-elim}
+use mathlib.Core.Bool.{Bool, true, false, _||_}
 use mathlib.Core.List.{List}
 use native.Mathlib.Nat.{not-suc-le-zero}
 use native.Mathlib.Decide.{ℕ-discrete}
 use native.Mathlib.Numerals.{add-one}
 use native.Mathlib.Omega.{arith}
-use borrow.Author.Tests.{lt-ltb, le-ltb, lt-leb, le-leb}
+use borrow.Author.Tests.{lt-ltb, le-ltb, le-leb}
 use lib.Dec.{leb, ltb}
-use lib.ListN.{length, getD, set, length-set}
+use lib.ListN.{length, set, length-set}
 use lib.Seq.{getD-set-same, getD-set-other}
 use Rattle.base.specs.Places.{any}
 use Rattle.base.proofs.Counting.{same-test, leb-yes, yes-leb}

@@ -1,33 +1,33 @@
 -- A pass on the planes is the rules' pass. Assumes nothing.
-use Prim.Native.Nat.{ℕ, zero, suc, _+_, _-_, _*_, _≤_, _<_, zero-le}
-use mathlib.Core.Path.{_≡_, refl, sym, ap, ap₂, _∙_, subst}
-use mathlib.Core.Logic.{_⊎_, inl, inr, ⊎-elim}
-use mathlib.Core.Bool.{Bool, true, false, not, _&&_, _||_, cond, false≢true}
+use Prim.Native.Nat.{ℕ, zero, suc, _+_, _*_, _≤_, _<_}
+use mathlib.Core.Path.{_≡_, refl, sym, ap, _∙_}
+use mathlib.Core.Logic.{inl, inr}
+use mathlib.Core.Bool.{Bool, true, false, not, _||_}
 use mathlib.Core.List.{List}
 use native.Mathlib.Nat.{mul-le-mul-right, suc-mul}
 use native.Mathlib.Numerals.{add-one}
 use native.Mathlib.Omega.{arith}
-use borrow.Author.Tests.{lt-ltb, ne-eqb, eq-eqb, le-leb, lt-leb}
-use lib.Dec.{eqb, leb, ltb}
+use borrow.Author.Tests.{lt-ltb, le-leb}
+use lib.Dec.{eqb, leb}
 use lib.Ieee.{Float}
 use lib.IntN.{ℤ, pos, negsuc}
-use lib.ListN.{length, getD}
-use Rattle.base.specs.Places.{table, any}
-use Rattle.base.proofs.Counting.{case, clash, left, right, eqb-yes, table-at, any-same}
-use Rattle.rules.specs.Regions.{at, opaque, index, roots, root, inside, first, Symmetric}
+use lib.ListN.{length}
+use Rattle.base.proofs.Counting.{case, clash, left, right, table-at, any-same}
+use Rattle.rules.specs.Regions.{at, opaque, index, root, inside, first, Symmetric}
 use Rattle.rules.specs.Masks.{regions}
-use Rattle.rules.specs.Pass.{Rule, State, View, marked, view, voter, Verdict, stay, merge, freeze, pending, decided, verdict, painted, merges, freezes, fates, fate, applied, pass, moves}
+use Rattle.rules.specs.Pass.{Rule, State, marked, view, voter, Verdict, stay, merge, freeze, pending, decided, verdict, painted, merges, freezes, fates, fate, applied, pass, moves}
 use Rattle.rules.proofs.Roots.{clear-root}
 use Rattle.rules.proofs.Passes.{pending-first, merge-why, fate-at, view-large, large-opaque}
 use Rattle.grid.specs.Steps.{hood}
 use Rattle.grid.specs.Planes.{plane, cellOf, cellsOf, Labelled}
 use Rattle.grid.specs.Filling as Filling
 use Rattle.grid.specs.Filling.{Sized}
+use Rattle.grid.proofs.Planes.{cells-size, cells-at}
 use Rattle.orphans.specs.Polling.{Desk, Kept}
 use Rattle.orphans.specs.Passing.{ruleOf, stateOf, code, Indexed, ruled, Decided, numberOf, numberAt, paintBy, iceBy, Coloured, Wiped, Passed}
 use Rattle.orphans.proofs.Regions.{label-in, labelled, root-lead}
 use Rattle.grid.specs.declared.Tally.{Tally}
-use Rattle.orphans.proofs.Desks.{table-same, cells-kept, cells-length, cell-at, index-is, symmetric, desk-ready, desk-kept}
+use Rattle.orphans.proofs.Desks.{table-same, cells-kept, index-is, symmetric, desk-ready, desk-kept}
 use Rattle.orphans.proofs.Deciding.{indexed-kept, state-kept}
 
 -- ---- numbers and verdicts
@@ -91,7 +91,7 @@ module _ (h w steps limit : ℕ) (palette : List Float) (reach : Float) (c d e :
 
   len : length (s .cells) ≡ rule .places
   unfolding ruleOf stateOf
-  len = cells-length n c
+  len = cells-size n c
 
   fate-is : (p : ℕ) → p < n → f p ≡ verdict rule (view rule s) (root n adj cells p)
   unfolding ruleOf stateOf
@@ -102,17 +102,17 @@ module _ (h w steps limit : ℕ) (palette : List Float) (reach : Float) (c d e :
   unfolding verdict decided code view ruleOf stateOf first inside
   clear-stays p l z =
       let q : pending rule (view rule s) p ≡ false = case (pending rule (view rule s) p) (λ y. clash (left _ _ (pending-first rule (view rule s) p y)) z) (λ y. y) in
-      rw (clear-root n adj cells (cells-length n c) p l z, q)
+      rw (clear-root n adj cells (cells-size n c) p l z, q)
 
   label-case : (p : ℕ) → p < n → (l : ℕ) → plane n 1 c p ≡ l → numberOf n d l ≡ code (verdict rule (view rule s) (root n adj cells p))
   unfolding numberOf ruled
   label-case p lp zero el = sym (clear-stays p lp (case (opaque cells p)
-      (λ y. let l = labelled n adj cells c (desk .regions) (desk .taken) (cells-length n c) (symmetric h w steps c desk) (desk .labelled) p y in absurd (omega arith)) (λ z. z)))
+      (λ y. let l = labelled n adj cells c (desk .regions) (desk .taken) (cells-size n c) (symmetric h w steps c desk) (desk .labelled) p y in absurd (omega arith)) (λ z. z)))
   label-case p lp (suc t) el =
-      let l = label-in n adj cells c (desk .regions) (desk .taken) (cells-length n c) (symmetric h w steps c desk) (desk .labelled) p lp in
+      let l = label-in n adj cells c (desk .regions) (desk .taken) (cells-size n c) (symmetric h w steps c desk) (desk .labelled) p lp in
       let k : t < desk .regions = omega arith in
       decided .right t (omega (arith, desk .labelled .count))
-      ∙ ap (λ (m : ℕ). code (verdict rule (view rule s) m)) (sym (root-lead n adj cells c (desk .regions) (desk .taken) (cells-length n c) (symmetric h w steps c desk) (desk .labelled) t k p lp el))
+      ∙ ap (λ (m : ℕ). code (verdict rule (view rule s) m)) (sym (root-lead n adj cells c (desk .regions) (desk .taken) (cells-size n c) (symmetric h w steps c desk) (desk .labelled) t k p lp el))
 
   number-is : (p : ℕ) → p < n → numberAt n d p ≡ code (f p)
   unfolding numberAt
@@ -129,7 +129,7 @@ module _ (h w steps limit : ℕ) (palette : List Float) (reach : Float) (c d e :
   unfolding pass applied stateOf cellsOf ruleOf marked
   passed-state =
       rw (
-        table-same n (λ p. cellOf (plane n 0 e p)) (λ p. painted (f p) (at cells p)) (negsuc 0) (λ p l. ap cellOf (paint-is p l) ∙ paint-code (f p) (plane n 0 c p) ∙ ap (painted (f p)) (sym (cell-at n c p l))),
+        table-same n (λ p. cellOf (plane n 0 e p)) (λ p. painted (f p) (at cells p)) (negsuc 0) (λ p l. ap cellOf (paint-is p l) ∙ paint-code (f p) (plane n 0 c p) ∙ ap (painted (f p)) (sym (cells-at n c p l))),
         table-same n (λ p. not (eqb (plane n 4 e p) 0)) (λ p. freezes (f p) || marked (s .frozen) p) false
             (λ p l. ap (λ (x : ℕ). not (eqb x 0)) (ice-is p l) ∙ ice-code (f p) (plane n 4 c p) ∙ ap (λ (b : Bool). freezes (f p) || b) (sym (table-at n (λ p. not (eqb (plane n 4 c p) 0)) false p l))),
       )

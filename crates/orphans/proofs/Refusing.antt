@@ -1,9 +1,9 @@
 -- The rows of `remove_orphans` one after the other, and what its answer comes to. Assumes nothing.
 use Prim.Native.Nat.{ℕ, _*_, _≤_, _<_}
-use mathlib.Core.Path.{_≡_, refl, sym, ap, _∙_}
+use mathlib.Core.Path.{_≡_, ap, sym}
 use mathlib.Core.Bool.{Bool, true, false, not, _&&_, _||_}
 use mathlib.Core.List.{List, [], _∷_}
-use mathlib.Core.Option.{Option, none, some}
+use mathlib.Core.Option.{none, some}
 use native.Mathlib.Omega.{arith}
 use borrow.Author.Tests.{lt-ltb, le-ltb, ltb-false}
 use lib.Dec.{ltb, eqb}
@@ -14,7 +14,7 @@ use lib.Seq.{getD-take}
 use lib.ListN.{length, take}
 use Rattle.base.specs.declared.Filling.{Filling}
 use Rattle.base.specs.Places.{any}
-use Rattle.base.specs.Refusals.{Row, row, refusal, unless, filling}
+use Rattle.base.specs.Refusals.{Row, refusal, unless, filling}
 use Rattle.base.proofs.Counting.{case, clash, or-left, or-right, eqb-yes, any-same}
 use Rattle.color.proofs.Answers.{refused, passed, done, neither}
 use Rattle.rules.specs.declared.Cleaning.the-variants as answers

@@ -1,22 +1,19 @@
 -- What the planes of regions tell: the places of a region, its size and its root. Assumes nothing.
-use Prim.Native.Nat.{ℕ, zero, suc, _+_, _-_, _*_, _≤_, _<_, zero-le, suc-le-suc}
+use Prim.Native.Nat.{ℕ, zero, suc, _+_, _-_, _≤_, _<_, zero-le}
 use mathlib.Core.Path.{_≡_, refl, sym, ap, _∙_, subst}
-use mathlib.Core.Logic.{_⊎_, inl, inr, ⊎-elim, _↔_}
-use mathlib.Core.Bool.{Bool, true, false, not, _&&_, _||_, cond}
+use mathlib.Core.Bool.{Bool, true, false, not, _&&_}
 use mathlib.Core.List.{List}
-use native.Mathlib.Nat.{not-suc-le-zero, lt-suc-self, le-step}
-use native.Mathlib.Decide.{ℕ-discrete, decLt}
+use native.Mathlib.Nat.{lt-suc-self, le-step}
 use native.Mathlib.Omega.{arith}
-use borrow.Author.Tests.{eq-eqb, ne-eqb}
+use borrow.Author.Tests.{ne-eqb}
 use lib.Dec.{eqb, leb, ltb}
-use lib.IntN.{ℤ, pos}
-use lib.Signed.{ltZ}
+use lib.IntN.{ℤ}
 use lib.ListN.{length}
 use Rattle.base.specs.Places.{any, count}
-use Rattle.base.proofs.Counting.{case, clash, both, left, right, either, or-left, or-right, not-true, not-false, same-test, eqb-yes, yes-eqb, leb-yes, yes-leb, no-leb, any-yes, yes-any, any-no, count-le, count-same, count-insert}
-use Rattle.rules.specs.Regions.{at, opaque, Joined, held, roots, root, inside, first, label, Symmetric}
+use Rattle.base.proofs.Counting.{case, clash, both, left, right, or-left, not-true, not-false, same-test, eqb-yes, yes-eqb, leb-yes, yes-leb, no-leb, any-yes, yes-any, count-le, count-same, count-insert}
+use Rattle.rules.specs.Regions.{opaque, Joined, roots, root, inside, first, label, Symmetric}
 use Rattle.rules.specs.Masks as masks
-use Rattle.rules.specs.Pass.{Rule, size, few, isLarge, large}
+use Rattle.rules.specs.Pass.{size, large}
 use Rattle.rules.proofs.Roots.{opaque-below, join-left, join-right, join-root, join-inside, inside-join, first-root}
 use Rattle.rules.proofs.Labels.{label-clear, label-positive, label-le, label-joined, label-hit}
 use Rattle.grid.specs.Planes.{plane, groupAt, endOf, Labelled}

@@ -1,26 +1,25 @@
 -- A lent sheet loaded, cleaned on the planes and stored is the sheet cleaned by the rules. Assumes nothing.
-use Prim.Native.Nat.{ℕ, zero, suc, _+_, _-_, _*_, _≤_, _<_, zero-le}
+use Prim.Native.Nat.{ℕ, zero, suc, _*_, _≤_, _<_, zero-le}
 use mathlib.Core.Path.{_≡_, refl, sym, ap, ap₂, _∙_, subst}
-use mathlib.Core.Bool.{Bool, true, false, not, _&&_}
+use mathlib.Core.Bool.{true, false}
 use mathlib.Core.List.{List, _++_}
 use native.Mathlib.Numerals.{add-one}
 use native.Mathlib.Omega.{arith}
 use lib.Dec.{T, leb}
 use lib.Ieee.{Float}
-use lib.IntN.{ℤ, pos, negsuc, natAbs}
+use lib.IntN.{ℤ, pos, negsuc}
 use lib.Signed.{nonNeg, ltZ, leZ}
-use lib.ListN.{length, getD, take, drop, take-append-drop}
+use lib.ListN.{length, take, drop, take-append-drop}
 use lib.Seq.{ext-getD, getD-take, length-take-le}
-use Rattle.base.specs.Places.{table, any}
+use Rattle.base.specs.Places.{table}
 use Rattle.base.specs.Outputs.{filled}
 use Rattle.base.proofs.Counting.{case, clash, leb-yes, yes-leb, no-leb, table-at, table-length, any-no}
-use Rattle.color.specs.Lab.{entry, distance}
-use Rattle.rules.specs.Regions.{at, opaque, index, Symmetric}
+use Rattle.rules.specs.Regions.{at, opaque, Symmetric}
 use Rattle.rules.specs.Pass.{Rule, State, pass, repaints, moves, fates, fresh, Cleaned, clean}
-use Rattle.rules.specs.Palette.{Palette, paletteOf, colour}
-use Rattle.rules.specs.Sheet.{Sheet, area, sheetOf, over}
+use Rattle.rules.specs.Palette.{paletteOf, colour}
+use Rattle.rules.specs.Sheet.{area, sheetOf, over}
 use Rattle.rules.specs.Rows.{badIndex}
-use Rattle.rules.specs.Run.{Limits, ruleOn, Tidied, tidy}
+use Rattle.rules.specs.Run.{ruleOn, Tidied, tidy}
 use Rattle.rules.proofs.Passes.{pass-length, repainted, unpainted-kept}
 use Rattle.rules.proofs.Runs.{clean-go, clean-stop, run-length}
 use Rattle.rules.proofs.More.{pass-opaque, clean-opaque}

@@ -1,35 +1,38 @@
 -- The verdict on a region, from its places in the planes and the votes of its poll. Assumes nothing.
-use Prim.Native.Nat.{ℕ, zero, suc, _+_, _-_, _*_, _≤_, _<_, zero-le, suc-le-suc}
-use mathlib.Core.Path.{_≡_, refl, sym, ap, _∙_, subst}
-use mathlib.Core.Logic.{_⊎_, inl, inr, ⊎-elim}
-use mathlib.Core.Bool.{Bool, true, false, not, _&&_, cond}
+use Prim.Native.Nat.{ℕ, suc, _+_, _-_, _*_, _≤_, _<_}
+use mathlib.Core.Path.{_≡_, refl, sym, ap, _∙_}
+use mathlib.Core.Logic.{⊎-elim}
+use mathlib.Core.Bool.{Bool, true, false, not, _&&_, _||_}
 use mathlib.Core.List.{List}
 use mathlib.Core.Option.{Option}
 use native.Mathlib.Numerals.{add-one}
 use native.Mathlib.Omega.{arith}
-use lib.Dec.{eqb, leb, ltb}
+use lib.Dec.{eqb, leb}
 use lib.Ieee.{Float}
-use lib.IntN.{ℤ, pos, negsuc}
-use lib.Signed.{nonNeg, ltZ}
+use lib.IntN.{ℤ}
 use lib.ListN.{length, getD}
-use Rattle.base.specs.Places.{table, any, count, greatest}
-use Rattle.base.proofs.Counting.{case, clash, both, left, right, not-true, not-false, same-test, eqb-yes, yes-eqb, leb-yes, yes-leb, table-at, any-yes, yes-any, any-same, count-le, count-same, greatest-is}
+use Rattle.base.specs.Places.{table, any, count}
+use Rattle.base.proofs.Counting.{case, clash, both, either, no-leb, left, right, not-true, not-false, same-test, eqb-yes, yes-eqb, leb-yes, yes-leb, table-at, any-yes, yes-any, any-same, count-le, count-same, greatest-is}
 use Rattle.rules.specs.Regions.{at, opaque, index, roots, root, inside, first, Symmetric}
 use Rattle.rules.specs.Masks.{regions}
-use Rattle.rules.specs.Pass.{Rule, State, View, marked, size, few, isLarge, large, view, Verdict, votes, target, top, judged, voter, pending, decided, verdict}
+use Rattle.rules.specs.Pass.{Rule, View, marked, few, isLarge, large, view, votes, top, judged, voter, pending, decided, verdict}
 use Rattle.rules.proofs.Passes.{pending-not-large}
-use Rattle.rules.proofs.Roots.{first-root}
 use Rattle.rules.proofs.More.{target-past}
 use Rattle.grid.specs.Steps.{hood}
-use Rattle.grid.specs.Planes.{plane, cellOf, cellsOf, endOf}
+use Rattle.grid.specs.Planes.{plane, cellsOf, endOf}
 use Rattle.grid.proofs.Places.{area}
 use Rattle.orphans.specs.Choice.{apart, choice}
+use Rattle.grid.proofs.Planes.{cells-size}
 use Rattle.orphans.specs.Polling.{Desk, big, frozenAmong, ballot, Polled}
 use Rattle.orphans.specs.Passing.{ruleOf, stateOf, code, Indexed, ruled, Judged}
 use Rattle.orphans.proofs.Choosing.{choice-is}
 use Rattle.orphans.proofs.Regions.{not-empty, lead-below, lead-opaque, lead-first, lead-big, nth-in, any-run, big-is}
-use Rattle.orphans.proofs.Desks.{kept-none, cells-length, index-is, symmetric}
+use Rattle.orphans.proofs.Desks.{kept-none, index-is, symmetric}
 use Rattle.orphans.proofs.Votes.{Beside}
+
+neither : (a b : Bool) → (a || b) ≡ false → (a ≡ false) × (b ≡ false)
+neither true b e = clash refl e
+neither false b e = (refl, e)
 
 -- a pending region has no frozen cell
 pending-thawed : (rule : Rule) (v : View) (m : ℕ) → pending rule v m ≡ true → any (rule .places) (λ p. inside (v .cells) (v .root) m p && marked (v .frozen) p) ≡ false
@@ -56,10 +59,10 @@ module _ (h w steps limit : ℕ) (palette : List Float) (reach : Float) (a : Lis
 
   large-big : (q : ℕ) → q < n → marked (v .large) q ≡ big n limit a q
   unfolding marked view ruleOf stateOf isLarge few root
-  large-big q l = table-at n _ false q l ∙ sym (big-is n adj cells a (desk .regions) (desk .taken) (cells-length n a) (symmetric h w steps a desk) (desk .labelled) limit q l)
+  large-big q l = table-at n _ false q l ∙ sym (big-is n adj cells a (desk .regions) (desk .taken) (cells-size n a) (symmetric h w steps a desk) (desk .labelled) limit q l)
 
   large-opaque : (q : ℕ) → q < n → big n limit a q ≡ true → opaque cells q ≡ true
-  large-opaque q l y = left _ _ (sym (big-is n adj cells a (desk .regions) (desk .taken) (cells-length n a) (symmetric h w steps a desk) (desk .labelled) limit q l) ∙ y)
+  large-opaque q l y = left _ _ (sym (big-is n adj cells a (desk .regions) (desk .taken) (cells-size n a) (symmetric h w steps a desk) (desk .labelled) limit q l) ∙ y)
 
   module _ (t : ℕ) (lt : t < desk .regions) where
     abbrev from : ℕ
@@ -76,19 +79,19 @@ module _ (h w steps limit : ℕ) (palette : List Float) (reach : Float) (a : Lis
     stays e = rw e
 
     lead-in : m < n
-    lead-in = lead-below n adj cells a (desk .regions) (desk .taken) (cells-length n a) (symmetric h w steps a desk) (desk .labelled) t lt
+    lead-in = lead-below n adj cells a (desk .regions) (desk .taken) (cells-size n a) (symmetric h w steps a desk) (desk .labelled) t lt
 
     lead-seen : opaque cells m ≡ true
-    lead-seen = lead-opaque n adj cells a (desk .regions) (desk .taken) (cells-length n a) (symmetric h w steps a desk) (desk .labelled) t lt
+    lead-seen = lead-opaque n adj cells a (desk .regions) (desk .taken) (cells-size n a) (symmetric h w steps a desk) (desk .labelled) t lt
 
     abbrev inTest : ℕ → Bool
     inTest = inside cells (roots n adj cells) m
 
     lead-any : (u : ℕ → Bool) → any n (λ p. inTest p && u p) ≡ any many (λ i. u (plane n 2 a (from + i)))
-    lead-any = any-run n adj cells a (desk .regions) (desk .taken) (cells-length n a) (symmetric h w steps a desk) (desk .labelled) t lt
+    lead-any = any-run n adj cells a (desk .regions) (desk .taken) (cells-size n a) (symmetric h w steps a desk) (desk .labelled) t lt
 
     many-big : marked (v .large) m ≡ leb limit many
-    many-big = large-big m lead-in ∙ lead-big n adj cells a (desk .regions) (desk .taken) (cells-length n a) (symmetric h w steps a desk) (desk .labelled) t lt limit
+    many-big = large-big m lead-in ∙ lead-big n adj cells a (desk .regions) (desk .taken) (cells-size n a) (symmetric h w steps a desk) (desk .labelled) t lt limit
 
     -- a large region stays
     pub stays-large : limit ≤ many → 0 ≡ ruled rule n a t
@@ -101,7 +104,7 @@ module _ (h w steps limit : ℕ) (palette : List Float) (reach : Float) (a : Lis
     frozen-is =
         lead-any (λ p. getD (table n (λ p. not (eqb (plane n 4 a p) 0))) p false)
         ∙ any-same many _ _ (λ i l. table-at n (λ p. not (eqb (plane n 4 a p) 0)) false (plane n 2 a (from + i))
-        (nth-in n adj cells a (desk .regions) (desk .taken) (cells-length n a) (symmetric h w steps a desk) (desk .labelled) t lt i l .1))
+        (nth-in n adj cells a (desk .regions) (desk .taken) (cells-size n a) (symmetric h w steps a desk) (desk .labelled) t lt i l .1))
 
     -- a region with a frozen cell stays
     pub stays-frozen : frozenAmong n a from many ≡ true → 0 ≡ ruled rule n a t
@@ -112,7 +115,7 @@ module _ (h w steps limit : ℕ) (palette : List Float) (reach : Float) (a : Lis
     decides : many < limit → frozenAmong n a from many ≡ false → pending rule v m ≡ true
     unfolding pending view ruleOf stateOf
     decides l z =
-        both (both (both (lead-first n adj cells a (desk .regions) (desk .taken) (cells-length n a) (symmetric h w steps a desk) (desk .labelled) t lt) (not-false (many-big ∙ small))) refl) (not-false (frozen-is ∙ z))
+        both (both (both (lead-first n adj cells a (desk .regions) (desk .taken) (cells-size n a) (symmetric h w steps a desk) (desk .labelled) t lt) (not-false (many-big ∙ small))) refl) (not-false (frozen-is ∙ z))
       where
         small : leb limit many ≡ false
         small = case (leb limit many) (λ y. let g = leb-yes {m = limit} {n = many} y in absurd (omega arith)) (λ u. u)
@@ -245,7 +248,7 @@ module _ (h w steps : ℕ) (a : List ℕ) (desk : Desk h w steps a) (t : ℕ) (l
       cells = cellsOf (h * w) a
 
       len : length cells ≡ n
-      len = cells-length (h * w) a
+      len = cells-size (h * w) a
 
       sym-hood : Symmetric (hood steps w)
       sym-hood = symmetric h w steps a desk
@@ -257,19 +260,21 @@ module _ (h w steps : ℕ) (a : List ℕ) (desk : Desk h w steps a) (t : ℕ) (l
     stayed : 0 ≡ ruled (ruleOf h w steps limit palette reach) (h * w) a t → Judged (ruleOf h w steps limit palette reach) (h * w) t a a 0
     stayed e = record { kept = kept-none (h * w) a; rest = λ q l. refl; marks = λ q l. omega (arith, fresh q l); right = e }
 
-    pub judged-large : limit ≤ to - from → Judged (ruleOf h w steps limit palette reach) (h * w) t a a 0
-    judged-large l = stayed (stays-large h w steps limit palette reach a desk t counted (rw (ef, ends) at l))
+    pub judged-spared : true ≡ (leb limit (to - from) || frozenAmong (h * w) a from (to - from)) → Judged (ruleOf h w steps limit palette reach) (h * w) t a a 0
+    judged-spared y =
+        ⊎-elim (λ l. stayed (stays-large h w steps limit palette reach a desk t counted (rw (ef, ends) at (leb-yes {m = limit} {n = to - from} l))))
+        (λ z. stayed (stays-frozen h w steps limit palette reach a desk t counted (rw (ef, ends) at z)))
+        (either (leb limit (to - from)) (frozenAmong (h * w) a from (to - from)) (sym y))
 
-    pub judged-frozen : true ≡ frozenAmong (h * w) a from (to - from) → Judged (ruleOf h w steps limit palette reach) (h * w) t a a 0
-    judged-frozen y = stayed (stays-frozen h w steps limit palette reach a desk t counted (rw (ef, ends) at (sym y)))
-
-    pub judged-polled : (k : ℕ) → Indexed (h * w) k a → to - from < limit → false ≡ frozenAmong (h * w) a from (to - from) → (b counts : List ℕ) →
+    pub judged-polled : (k : ℕ) → Indexed (h * w) k a → false ≡ (leb limit (to - from) || frozenAmong (h * w) a from (to - from)) → (b counts : List ℕ) →
         Polled (h * w) limit (t + 1) (Beside h w steps a from to) a b counts → (r : ℕ) → r ≡ choice (apart palette (plane (h * w) 0 a (plane (h * w) 2 a from) - 1)) counts k reach →
         Judged (ruleOf h w steps limit palette reach) (h * w) t a b r
-    judged-polled k known l z b counts u r e = record {
-      kept = u .kept;
-      rest = u .rest;
-      marks = λ q lq. ⊎-elim (λ f. omega (arith, fresh q lq)) (λ f. omega (arith, f .0)) (u .marks q lq);
-      right = (rw ef at e) ∙ polled-verdict h w steps limit palette reach a desk t counted k (known .below) b counts
-          (λ q lq. omega (arith, fresh q lq)) (rw (ef, ends) at u) (known .few) (rw (ef, ends) at l) (rw (ef, ends) at (sym z));
-    }
+    judged-polled k known y b counts u r e =
+        let z = neither (leb limit (to - from)) (frozenAmong (h * w) a from (to - from)) (sym y) in
+        record {
+          kept = u .kept;
+          rest = u .rest;
+          marks = λ q lq. ⊎-elim (λ f. omega (arith, fresh q lq)) (λ f. omega (arith, f .0)) (u .marks q lq);
+          right = (rw ef at e) ∙ polled-verdict h w steps limit palette reach a desk t counted k (known .below) b counts
+              (λ q lq. omega (arith, fresh q lq)) (rw (ef, ends) at u) (known .few) (rw (ef, ends) at (no-leb {m = limit} {n = to - from} (z .0))) (rw (ef, ends) at (z .1));
+        }

@@ -1,20 +1,19 @@
 -- Cells that are asked for their vote, one after the other. Assumes nothing.
-use Prim.Native.Nat.{ℕ, zero, suc, _+_, _-_, _*_, _≤_, _<_}
-use mathlib.Core.Path.{_≡_, refl, sym, ap, _∙_, subst}
+use Prim.Native.Nat.{ℕ, _+_, _*_, _≤_, _<_}
+use mathlib.Core.Path.{_≡_, refl, sym, ap, _∙_}
 use mathlib.Core.Logic.{_⊎_, inl, inr, ⊎-elim}
-use mathlib.Core.Bool.{Bool, true, false, not, _&&_}
+use mathlib.Core.Bool.{true, false}
 use mathlib.Core.List.{List}
 use mathlib.Core.Option.{Option, none, some}
 use native.Mathlib.Nat.{not-suc-le-zero}
 use native.Mathlib.Decide.{ℕ-discrete}
-use native.Mathlib.Numerals.{add-one}
 use native.Mathlib.Omega.{arith}
 use borrow.Author.Tests.{eq-eqb, ne-eqb}
 use lib.Dec.{eqb}
 use lib.ListN.{length, getD, set, length-set, replicate, length-replicate, getD-replicate}
 use lib.Seq.{getD-set-same, getD-set-other}
 use Rattle.base.specs.Places.{count}
-use Rattle.base.proofs.Counting.{case, clash, left, right, both, eqb-yes, yes-eqb, count-same, count-insert, count-le}
+use Rattle.base.proofs.Counting.{clash, left, eqb-yes, yes-eqb, count-same, count-insert, count-le}
 use Rattle.grid.specs.Planes.{plane}
 use Rattle.grid.specs.Steps.{hop, hood}
 use Rattle.grid.proofs.Places.{some-inj, none-some, hood-sound, hood-complete}

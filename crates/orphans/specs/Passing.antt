@@ -9,7 +9,7 @@ use lib.ListN.{length, getD, set}
 use lib.IntN.{pos}
 use lib.Ieee.{Float}
 use Rattle.base.specs.Places.{table, any}
-use Rattle.rules.specs.Pass.{Rule, State, View, Verdict, stay, merge, freeze, view}
+use Rattle.rules.specs.Pass.{Rule, State, Verdict, stay, merge, freeze, view}
 use Rattle.rules.specs.Pass as rules
 use Rattle.grid.specs.Steps.{hood}
 use Rattle.grid.specs.Planes.{plane, cellsOf, endOf}

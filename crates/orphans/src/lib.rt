@@ -3,7 +3,7 @@ ghost use mathlib.Core.Path.{_≡_};
 ghost use Prim.Native.Nat.{ℕ, _+_, _-_, _*_, _≤_, _<_};
 ghost use lib.IntN.{pos, negsuc};
 ghost use lib.Signed.{leZ};
-ghost use lib.Dec.{ltb};
+ghost use lib.Dec.{leb, ltb};
 ghost use lib.ListN.{length, take};
 ghost use Rattle.base.specs.Places.{any};
 ghost use Rattle.base.specs.Refusals.{filling};
@@ -240,6 +240,27 @@ fn any_frozen(work: &[u32], n: usize, from: usize, many: usize) -> bool
     false
 }
 
+// Whether a region of `many` places from `from` on stays as it is: it is large, or one of its places is frozen.
+fn spared(work: &[u32], n: usize, from: usize, many: usize, limit: u32) -> bool
+    requires { ⌜ (8 * n ≤ length (now work)) × (from + many ≤ n) × ((i : ℕ) → i < many → plane n 2 (now work) (from + i) < n) ⌝ }
+    ensures { λ r. ⌜ r ≡ (leb limit many || frozenAmong n (now (work .entry)) from many) ⌝ }
+{
+    if limit as usize <= many {
+        return true;
+    }
+    any_frozen(work, n, from, many)
+}
+
+// The index of the cell at the place `from` of the order.
+fn own_index(work: &[u32], n: usize, from: usize) -> usize
+    requires { ⌜ (8 * n ≤ length (now work)) × (from < n) × (plane n 2 (now work) from < n) × (1 ≤ plane n 0 (now work) (plane n 2 (now work) from)) ⌝ }
+    ensures { λ r. ⌜ r ≡ plane n 0 (now (work .entry)) (plane n 2 (now (work .entry)) from) - 1 ⌝ }
+{
+    let p = work[2 * n + from] as usize;
+    let paint = work[p] as usize;
+    paint - 1
+}
+
 // What becomes of the region with the label at + 1: 0 it stays, 1 it is frozen, c + 2 it takes the index c.
 fn verdict(
     work: &mut [u32],
@@ -262,15 +283,10 @@ fn verdict(
     let from = region_end(work, n, at) as usize;
     let to = region_end(work, n, label) as usize;
     let many = to - from;
-    if limit as usize <= many {
+    if spared(work, n, from, many, limit) {
         return 0;
     }
-    if any_frozen(work, n, from, many) {
-        return 0;
-    }
-    let p = work[2 * n + from] as usize;
-    let paint = work[p] as usize;
-    let own = paint - 1;
+    let own = own_index(work, n, from);
     let mut counts = [0u32; 256];
     poll(
         work,
@@ -442,11 +458,11 @@ fn bad_limits(max_delta: f64, max_passes: u32) -> bool
 }
 
 // Row 7: regions can be small, and one of the first n cells names no entry.
-fn bad_index(cells: &[i32], n: usize, k: usize, min_region: i32) -> bool
+fn bad_index(cells: &[i32], n: usize, k: usize, region: i32) -> bool
     requires { ⌜ (k ≤ 256) × (n ≤ length (now cells)) ⌝ }
-    ensures { λ r. ⌜ r ≡ (leZ (pos 2) «min_region» && any n (λ p. leZ (pos k) (at (take n (now (cells .entry))) p))) ⌝ }
+    ensures { λ r. ⌜ r ≡ (leZ (pos 2) region && any n (λ p. leZ (pos k) (at (take n (now (cells .entry))) p))) ⌝ }
 {
-    if min_region < 2 {
+    if region < 2 {
         return false;
     }
     checks::bad_index(cells, n, k)

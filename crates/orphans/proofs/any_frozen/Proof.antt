@@ -3,15 +3,13 @@ use mathlib.Core.Path.{_≡_, sym, ap, _∙_}
 use mathlib.Core.Bool.{false}
 use Prim.Native.Nat.{ℕ, _+_, _-_, _*_, _≤_, _<_}
 use native.Mathlib.Omega.{arith}
-use lib.ListN.{length, getD}
+use lib.ListN.{getD}
 use Rattle.grid.specs.Planes.{plane}
 use Rattle.grid.proofs.Planes.{plane-read}
 use Rattle.orphans.specs.Polling.{frozenAmong}
 use Rattle.orphans.proofs.Desks.{frozen-none, frozen-found, frozen-more}
 use Rattle.orphans.proofs.any_frozen.Statement.{statement}
 use Rattle.orphans.proofs.any_frozen.Tie as tie
-use Rattle.orphans.proofs.any_frozen.Reads as reads
-use Rattle.orphans.proofs.any_frozen.Lts as lts
 
 abbrev Inv-loop : tie.InvT-loop
 Inv-loop work n from many i₀ i = (frozenAmong n work from i ≡ false) × (i ≤ many)
@@ -19,7 +17,6 @@ Inv-loop work n from many i₀ i = (frozenAmong n work from i ≡ false) × (i �
 abbrev μ-loop : tie.MeasureT-loop
 μ-loop work n from many i₀ i = many - i
 
--- src/lib.rt:208:5
 loop-holds : tie.Need-loop-holds Inv-loop μ-loop
 loop-holds c = (frozen-none (c .args .n) (c .args .from) (c .args .work .now), omega arith)
 
@@ -43,69 +40,54 @@ ice-is c =
     let s = start c in
     plane-read (s .args .n) 4 (place c) (4 * s .args .n + place c) (s .args .work .now) (omega arith) ∙ ap (plane (s .args .n) 4 (s .args .work .now)) (place-is c)
 
--- src/lib.rt:209:22
 mul-p : tie.Need-mul-p Inv-loop μ-loop
 mul-p c = omega arith
 
--- src/lib.rt:209:22
 add-p : tie.Need-add-p Inv-loop μ-loop
 add-p c = omega arith
 
--- src/lib.rt:209:22
 add-p-2 : tie.Need-add-p-2 Inv-loop μ-loop
 add-p-2 c = omega arith
 
--- src/lib.rt:209:17
 mul-p-2 : tie.Need-mul-p-2 Inv-loop μ-loop
 mul-p-2 c = omega arith
 
--- src/lib.rt:209:17
 shared-slice-read-p : tie.Need-shared-slice-read-p Inv-loop μ-loop
 shared-slice-read-p c = omega arith
 
--- src/lib.rt:209:17
 cast-p : tie.Need-cast-p Inv-loop μ-loop
 cast-p c = omega (arith, place-in (c .before))
 
--- src/lib.rt:210:17
 mul-if1 : tie.Need-mul-if1 Inv-loop μ-loop
 mul-if1 c = omega (arith, place-in (c .before))
 
--- src/lib.rt:210:17
 add-if1 : tie.Need-add-if1 Inv-loop μ-loop
 add-if1 c = omega (arith, place-in (c .before))
 
--- src/lib.rt:210:12
 mul-if1-2 : tie.Need-mul-if1-2 Inv-loop μ-loop
 mul-if1-2 c = omega (arith, place-in (c .before))
 
--- src/lib.rt:210:12
 shared-slice-read-if1 : tie.Need-shared-slice-read-if1 Inv-loop μ-loop
 shared-slice-read-if1 c = omega (arith, place-in (c .before .before))
 
--- src/lib.rt:211:13
 returns : tie.Need-returns Inv-loop μ-loop
 returns c =
     let i = c .before .before .before in
     let s = start i in
     frozen-found (s .args .n) (s .args .from) (s .args .work .now) (i .before .loop .i) (s .args .many) (i .loop-test .taken) (λ z. c .if1 .taken (ice-is i ∙ z))
 
--- src/lib.rt:208:9
 add-i : tie.Need-add-i Inv-loop μ-loop
 add-i c = omega arith
 
--- src/lib.rt:208:5
 loop-less : tie.Need-loop-less Inv-loop μ-loop
 loop-less c = omega arith
 
--- src/lib.rt:208:5
 loop-again : tie.Need-loop-again Inv-loop μ-loop
 loop-again c =
     let i = c .before .before .before in
     let s = start i in
     (frozen-more (s .args .n) (s .args .from) (s .args .work .now) (i .before .loop .i) (i .before .loop .inv .0) (sym (ice-is i) ∙ c .if1 .left), omega arith)
 
--- src/lib.rt:204:1
 returns-2 : tie.Need-returns-2 Inv-loop μ-loop
 returns-2 c =
     let s = c .before .before in

@@ -1,6 +1,6 @@
 -- `orphans::ask`: one cell. Assumes nothing.
-use Prim.Native.Nat.{ℕ, _+_, _-_, _*_, _≤_, _<_}
-use mathlib.Core.Path.{_≡_, sym, ap, _∙_}
+use Prim.Native.Nat.{_+_, _-_, _*_, _≤_, _<_}
+use mathlib.Core.Path.{_≡_, sym, _∙_}
 use mathlib.Core.Bool.{true}
 use native.Mathlib.Omega.{arith}
 use lib.ListN.{length, getD}
@@ -14,23 +14,16 @@ use borrow.Author.Needs.{needs}
 use borrow.Author.Tests.{not-true, not-false}
 use Rattle.orphans.proofs.ask.Statement.{statement}
 use Rattle.orphans.proofs.ask.Tie as tie
-use Rattle.orphans.proofs.ask.Reads as reads
-use Rattle.orphans.proofs.ask.Lts as lts
-use Rattle.orphans.proofs.is_large.Reads as is-large-reads
 
--- src/lib.rt:112:13
 mul-if1 : tie.Need-mul-if1
 mul-if1 c = search needs
 
--- src/lib.rt:112:13
 add-if1 : tie.Need-add-if1
 add-if1 c = search needs
 
--- src/lib.rt:112:8
 mul-if1-2 : tie.Need-mul-if1-2
 mul-if1-2 c = search needs
 
--- src/lib.rt:112:8
 slice-read-if1 : tie.Need-slice-read-if1
 slice-read-if1 c = search needs
 
@@ -38,22 +31,18 @@ slice-read-if1 c = search needs
 mark-is : (c : tie.After-slice-known2) → getD (c .before .before .args .work .now) (5 * c .before .before .args .n + c .before .before .args .q) 0 ≡ plane (c .before .before .args .n) 5 (c .before .before .args .work .now) (c .before .before .args .q)
 mark-is c = let s = c .before .before in plane-read (s .args .n) 5 (s .args .q) (5 * s .args .n + s .args .q) (s .args .work .now) (omega arith)
 
--- src/lib.rt:113:9
 returns : tie.Need-returns
 returns c =
     let s = c .before .before .before in
     polled-silent (s .args .n) (s .args .limit) (s .args .mark) (s .args .q) (s .pre .1 .0) (s .args .work .now) (s .args .counts .now) (s .pre .1 .1)
     (λ y. sym (mark-is (c .before)) ∙ c .if1 .taken)
 
--- src/lib.rt:115:9
 is-large-requires : tie.Need-is-large-requires
 is-large-requires c κs = search needs
 
--- src/lib.rt:116:9
 same-length : tie.Need-same-length
 same-length c = search needs
 
--- src/lib.rt:116:9
 returns-2 : tie.Need-returns-2
 returns-2 c =
     let a = c .before in
@@ -90,47 +79,36 @@ bounds c =
       inside = s .pre .1 .0;
     }
 
--- src/lib.rt:118:17
 mul-paint : tie.Need-mul-paint
 mul-paint c = search needs
 
--- src/lib.rt:118:17
 slice-read-paint : tie.Need-slice-read-paint
 slice-read-paint c = search needs
 
--- src/lib.rt:118:17
 cast-paint : tie.Need-cast-paint
 cast-paint c = omega (arith, bounds (c .before))
 
--- src/lib.rt:119:13
 sub-c : tie.Need-sub-c
 sub-c c = omega (arith, bounds (c .before))
 
--- src/lib.rt:120:10
 mul-work : tie.Need-mul-work
 mul-work c = search needs
 
--- src/lib.rt:120:10
 add-work : tie.Need-add-work
 add-work c = search needs
 
--- src/lib.rt:120:5
 mul-work-2 : tie.Need-mul-work-2
 mul-work-2 c = search needs
 
--- src/lib.rt:120:5
 slice-write-work : tie.Need-slice-write-work
 slice-write-work c = search needs
 
--- src/lib.rt:121:5
 mul-counts : tie.Need-mul-counts
 mul-counts c = omega (arith, bounds (c .before))
 
--- src/lib.rt:121:5
 element-copy-out-counts : tie.Need-element-copy-out-counts
 element-copy-out-counts c = omega (arith, bounds (c .before))
 
--- src/lib.rt:121:5
 add-counts : tie.Need-add-counts
 add-counts c =
     let a = c .before .before in
@@ -138,15 +116,12 @@ add-counts c =
     let l = tally-le (s .pre .1 .1) (getD (s .args .work .now) (s .args .q) 0 - 1) (omega (arith, bounds a)) in
     omega (arith, bounds a)
 
--- src/lib.rt:121:5
 element-write-counts : tie.Need-element-write-counts
 element-write-counts c = omega (arith, bounds (c .before .before))
 
--- src/lib.rt:106:1
 same-length-2 : tie.Need-same-length-2
 same-length-2 c = search needs
 
--- src/lib.rt:106:1
 returns-3 : tie.Need-returns-3
 returns-3 c =
     let a = c .before .before in

@@ -1,8 +1,7 @@
 -- `orphans::choice`, way out by way out. Assumes nothing.
-use mathlib.Core.Path.{_≡_, sym, ap, _∙_}
+use mathlib.Core.Path.{_≡_, sym, _∙_}
 use native.Mathlib.Omega.{arith}
-use Prim.Native.Nat.{ℕ, _<_}
-use lib.Ieee.{Float}
+use Prim.Native.Nat.{_<_}
 use Rattle.orphans.specs.declared.Target.the-variants.{Nothing, Index}
 use Rattle.orphans.specs.declared.Target.{Target}
 use Rattle.orphans.specs.Choice.{apart, decision, choice}
@@ -10,31 +9,22 @@ use Rattle.orphans.proofs.Choosing.{nearest-below, choice-none, choice-
 use borrow.Author.Needs.{needs}
 use Rattle.orphans.proofs.choice.Statement.{statement}
 use Rattle.orphans.proofs.choice.Tie as tie
-use Rattle.orphans.proofs.choice.Reads as reads
-use Rattle.orphans.proofs.choice.Lts as lts
-use Rattle.orphans.proofs.most.Reads as most-reads
-use Rattle.orphans.proofs.nearest.Reads as nearest-reads
 
--- src/lib.rt:63:9
 most-requires : tie.Need-most-requires
 most-requires c κs = search needs
 
--- src/lib.rt:65:9
 returns : tie.Need-returns
 returns c =
     let s = c .before .before .before in
     choice-none (apart (s .args .palette .now) (s .args .own)) (s .args .counts .now) (s .args .k) (c .before .most .result) (s .args .max-delta)
     (c .before .most .ensures) (c .if1 .taken)
 
--- src/lib.rt:67:31
 nearest-requires : tie.Need-nearest-requires
 nearest-requires c κs = search needs
 
--- src/lib.rt:67:23
 enum-known-c : tie.Need-enum-known-c
 enum-known-c c = search needs
 
--- src/lib.rt:68:9
 enum-told : tie.Need-enum-told
 enum-told c = search needs
 
@@ -46,14 +36,12 @@ chosen c t e =
     choice-some (apart (s .args .palette .now) (s .args .own)) (s .args .counts .now) (s .args .k) (m .most .result) (s .args .max-delta)
     (m .most .ensures) (c .before .if1 .left) t (e ∙ c .nearest .ensures)
 
--- src/lib.rt:68:9
 returns-2 : tie.Need-returns-2
 returns-2 c =
     let a = c .before .before in
     let s = a .before .before .before .before in
     decision-none (s .args .max-delta) ∙ chosen a Nothing (sym (c .enum-told .given .1))
 
--- src/lib.rt:71:16
 -- the target is below k
 few : (c : tie.After-c) → c .c .given .0 .0 < 256
 few c =
@@ -65,18 +53,15 @@ few c =
 cast-result : tie.Need-cast-result
 cast-result c = omega (arith, few (c .before .before))
 
--- src/lib.rt:71:16
 add-result : tie.Need-add-result
 add-result c = omega (arith, few (c .before .before))
 
--- src/lib.rt:71:9
 returns-3 : tie.Need-returns-3
 returns-3 c =
     let a = c .before .before in
     decision-near (a .c .given .0 .0) (a .c .given .0 .1 .0) (a .before .before .before .before .before .before .args .max-delta) (c .if2 .taken)
     ∙ chosen (a .before .before) (Index (a .c .given .0 .0) (a .c .given .0 .1 .0)) (sym (a .c .given .1))
 
--- src/lib.rt:59:1
 returns-4 : tie.Need-returns-4
 returns-4 c =
     let a = c .before .before in

@@ -1,22 +1,14 @@
 -- `orphans::clean_planes`: the passes so far. Assumes nothing.
-use mathlib.Core.Path.{_≡_, refl, sym, ap, _∙_, subst}
+use mathlib.Core.Path.{_≡_, refl, _∙_}
 use mathlib.Core.Bool.{Bool, true, false}
-use Prim.Native.Nat.{ℕ, _+_, _-_, _*_, _≤_, _<_}
+use Prim.Native.Nat.{_-_, _*_}
 use native.Mathlib.Omega.{arith}
 use borrow.Author.Tests.{not-true, not-false}
-use lib.ListN.{length}
-use Rattle.rules.specs.Pass.{Cleaned, State, fresh, clean}
-use Rattle.grid.specs.Planes.{cellsOf}
-use Rattle.grid.specs.Filling.{Sized}
 use Rattle.grid.proofs.Places.{area}
-use Rattle.orphans.specs.Passing.{ruleOf, stateOf, Passed, CleanedTo}
-use Rattle.orphans.proofs.Cleaning.{thawed, thawed-known, Going, going-start, going-on, going-stops, going-ends, same-size, cleaned-from}
+use Rattle.orphans.specs.Passing.{ruleOf, Passed}
+use Rattle.orphans.proofs.Cleaning.{thawed-known, Going, going-start, going-on, going-stops, going-ends, same-size, cleaned-from}
 use Rattle.orphans.proofs.clean_planes.Statement.{statement}
 use Rattle.orphans.proofs.clean_planes.Tie as tie
-use Rattle.orphans.proofs.clean_planes.Reads as reads
-use Rattle.orphans.proofs.clean_planes.Lts as lts
-use Rattle.orphans.proofs.pass.Reads as pass-reads
-use Rattle.orphans.proofs.wipe.Reads as wipe-reads
 
 abbrev Inv-loop : tie.InvT-loop
 Inv-loop work₀ h w steps palette k limit max-passes max-delta n count₀ work count = Going (ruleOf h w steps limit palette max-delta) (h * w) k max-passes work₀ work count
@@ -24,19 +16,15 @@ Inv-loop work₀ h w steps palette k limit max-passes max-delta n count₀ work 
 abbrev μ-loop : tie.MeasureT-loop
 μ-loop work₀ h w steps palette k limit max-passes max-delta n count₀ work count = max-passes - count
 
--- src/lib.rt:372:13
 mul-n : tie.Need-mul-n Inv-loop μ-loop
 mul-n c = let s = c .before .before in omega (arith, area (s .args .h) (s .args .w) (s .pre .0 .rows) (s .pre .0 .cols), s .pre .0 .planes)
 
--- src/lib.rt:373:16
 mul-wipe : tie.Need-mul-wipe Inv-loop μ-loop
 mul-wipe c = let s = c .before .before .before in omega (arith, area (s .args .h) (s .args .w) (s .pre .0 .rows) (s .pre .0 .cols), s .pre .0 .planes)
 
--- src/lib.rt:373:5
 wipe-requires : tie.Need-wipe-requires Inv-loop μ-loop
 wipe-requires c κs = let s = c .before .before .before in omega (arith, area (s .args .h) (s .args .w) (s .pre .0 .rows) (s .pre .0 .cols), s .pre .0 .planes)
 
--- src/lib.rt:374:5
 loop-holds : tie.Need-loop-holds Inv-loop μ-loop
 loop-holds c =
     let v = c .before .before in
@@ -50,7 +38,6 @@ wiped c = c .before .before .before .before
 abbrev start : tie.After-wipe Inv-loop μ-loop → tie.Start Inv-loop μ-loop
 start c = c .before .before .before .before
 
--- src/lib.rt:375:13
 pass-requires : tie.Need-pass-requires Inv-loop μ-loop
 pass-requires c κs =
     let i = c .before in
@@ -70,7 +57,6 @@ same-length c =
     let i = p .before .before in
     p .pass .ensures .len ∙ i .before .loop .inv .len ∙ wiped i .wipe .ensures .len
 
--- src/lib.rt:376:13
 returns : tie.Need-returns Inv-loop μ-loop
 unfolding ruleOf
 returns c =
@@ -82,15 +68,12 @@ returns c =
     (going-stops (ruleOf (s .args .h) (s .args .w) (s .args .steps) (s .args .limit) (s .args .palette .now) (s .args .max-delta)) (s .args .h * s .args .w) (s .args .k) (s .args .max-passes) (v .wipe .last .0) (i .before .loop .inv) (i .loop-test .taken)
     (made p false (not-true (p .pass .result) (c .if1 .taken))))
 
--- src/lib.rt:374:9
 add-count : tie.Need-add-count Inv-loop μ-loop
 add-count c = let i = c .before .before .before .before .before in omega (arith, i .loop-test .taken, start (wiped i) .fits .max-passes)
 
--- src/lib.rt:374:5
 loop-less : tie.Need-loop-less Inv-loop μ-loop
 loop-less c = let i = c .before .before .before .before .before in omega (arith, i .loop-test .taken)
 
--- src/lib.rt:374:5
 loop-again : tie.Need-loop-again Inv-loop μ-loop
 loop-again c =
     let p = c .before .before .before in
@@ -100,11 +83,9 @@ loop-again c =
     going-on (ruleOf (s .args .h) (s .args .w) (s .args .steps) (s .args .limit) (s .args .palette .now) (s .args .max-delta)) (s .args .h * s .args .w) (s .args .k) (s .args .max-passes) (v .wipe .last .0) (i .before .loop .inv) (i .loop-test .taken)
     (made p true (not-false (p .pass .result) (c .if1 .left)))
 
--- src/lib.rt:357:1
 same-length-2 : tie.Need-same-length-2 Inv-loop μ-loop
 same-length-2 c = let v = c .before .before .before .before in c .before .loop .inv .len ∙ v .wipe .ensures .len
 
--- src/lib.rt:357:1
 returns-2 : tie.Need-returns-2 Inv-loop μ-loop
 unfolding ruleOf
 returns-2 c =

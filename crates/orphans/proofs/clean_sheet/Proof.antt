@@ -1,13 +1,13 @@
 -- `orphans::clean_sheet`: loaded, cleaned, stored. Assumes nothing.
-use Prim.Native.Nat.{ℕ, _*_, _≤_, _<_}
-use mathlib.Core.Path.{_≡_, refl, sym, ap, _∙_, subst}
+use Prim.Native.Nat.{_*_, _≤_}
+use mathlib.Core.Path.{_≡_, refl, sym, _∙_, subst}
 use mathlib.Core.Logic.{inr}
-use mathlib.Core.Bool.{true, false}
+use mathlib.Core.Bool.{false}
 use native.Mathlib.Omega.{arith}
 use lib.Dec.{T}
-use lib.IntN.{ℤ, pos, natAbs}
+use lib.IntN.{pos, natAbs}
 use lib.Signed.{nonNeg, ltZ, pos-natAbs, natAbs-le}
-use lib.ListN.{length, take}
+use lib.ListN.{take}
 use mir.Syntax.{w32}
 use mir.Val.{Fits, toZ, ofZ}
 use mir.Facts.{toZ-ofZ}
@@ -17,13 +17,7 @@ use Rattle.orphans.proofs.Storing.{not-negative, loaded-known, none-cle
 use borrow.Author.Needs.{needs}
 use Rattle.orphans.proofs.clean_sheet.Statement.{statement}
 use Rattle.orphans.proofs.clean_sheet.Tie as tie
-use Rattle.orphans.proofs.clean_sheet.Reads as reads
-use Rattle.orphans.proofs.clean_sheet.Lts as lts
-use Rattle.grid.proofs.tile.load.Reads as load-reads
-use Rattle.grid.proofs.tile.store.Reads as store-reads
-use Rattle.orphans.proofs.clean_planes.Reads as clean-planes-reads
 
--- src/lib.rt:415:9
 returns : tie.Need-returns
 returns c = let s = c .before .before .before in none-cleaned (s .pre) (s .args .max-passes) (s .args .max-delta) (rw (toZ-ofZ (s .fits .min-region)) at (c .if1 .taken))
 
@@ -38,7 +32,6 @@ cast-limit c =
     let p : T (nonNeg z) × Fits w32 (natAbs z) = (not-negative z (low c), omega arith) in
     rw (toZ-ofZ (s .fits .min-region)) p
 
--- src/lib.rt:418:5
 load-requires : tie.Need-load-requires
 load-requires c κs = let f = c .before .before .before .before .before .pre in whole-tile _ _ _ _ (f .rows) (f .cols) (f .reads) (f .planes)
 
@@ -59,7 +52,6 @@ clean-planes-requires c κs =
       (loaded-known f (low (l .before .before .before)) (l .load .last .1 .0) (painted l), f .doubles),
     )
 
--- src/lib.rt:420:5
 store-requires : tie.Need-store-requires
 store-requires c κs =
     let v = c .before .before .before .before in
@@ -69,15 +61,12 @@ store-requires c κs =
       (λ p h. omega (arith, v .clean-planes .ensures .known .below p h, f .entries)),
     )
 
--- src/lib.rt:399:1
 same-length : tie.Need-same-length
 same-length c = search needs
 
--- src/lib.rt:399:1
 same-length-2 : tie.Need-same-length-2
 same-length-2 c = search needs
 
--- src/lib.rt:399:1
 returns-2 : tie.Need-returns-2
 returns-2 c =
     let t = c .before in

@@ -1,6 +1,6 @@
 -- `orphans::decide_all`: the regions so far. Assumes nothing.
-use mathlib.Core.Path.{_≡_, sym, ap, _∙_, subst}
-use Prim.Native.Nat.{ℕ, _+_, _-_, _*_, _≤_, _<_}
+use mathlib.Core.Path.{_≡_, subst}
+use Prim.Native.Nat.{ℕ, _-_, _*_, _≤_, _<_}
 use native.Mathlib.Omega.{arith}
 use lib.ListN.{length}
 use Rattle.grid.specs.Steps.{hood}
@@ -13,9 +13,6 @@ use Rattle.orphans.proofs.Verdicts.{in-range}
 use Rattle.orphans.proofs.Deciding.{indexed-kept, decided-start, decided-on}
 use Rattle.orphans.proofs.decide_all.Statement.{statement}
 use Rattle.orphans.proofs.decide_all.Tie as tie
-use Rattle.orphans.proofs.decide_all.Reads as reads
-use Rattle.orphans.proofs.decide_all.Lts as lts
-use Rattle.orphans.proofs.verdict.Reads as verdict-reads
 
 abbrev Inv-loop : tie.InvT-loop
 Inv-loop work₀ h w steps palette k limit max-delta count n at₀ work at = Decided (ruleOf h w steps limit palette max-delta) (h * w) at work₀ work × (at ≤ count)
@@ -23,11 +20,9 @@ Inv-loop work₀ h w steps palette k limit max-delta count n at₀ work at = Dec
 abbrev μ-loop : tie.MeasureT-loop
 μ-loop work₀ h w steps palette k limit max-delta count n at₀ work at = count - at
 
--- src/lib.rt:277:13
 mul-n : tie.Need-mul-n Inv-loop μ-loop
 mul-n c = let s = c .before .before in omega (arith, area (s .args .h) (s .args .w) (s .pre .0 .rows) (s .pre .0 .cols))
 
--- src/lib.rt:278:5
 loop-holds : tie.Need-loop-holds Inv-loop μ-loop
 loop-holds c =
     let s = c .before .before in
@@ -53,7 +48,6 @@ bounds c =
       turn = c .loop-test .taken;
     }
 
--- src/lib.rt:279:13
 verdict-requires : tie.Need-verdict-requires Inv-loop μ-loop
 verdict-requires c κs =
     let i = c .before in
@@ -66,31 +60,24 @@ verdict-requires c κs =
       ),
     )
 
--- src/lib.rt:280:14
 mul-work : tie.Need-mul-work Inv-loop μ-loop
 mul-work c = omega (arith, bounds (c .before .before .before .before))
 
--- src/lib.rt:280:14
 add-work : tie.Need-add-work Inv-loop μ-loop
 add-work c = omega (arith, bounds (c .before .before .before .before))
 
--- src/lib.rt:280:9
 mul-work-2 : tie.Need-mul-work-2 Inv-loop μ-loop
 mul-work-2 c = omega (arith, bounds (c .before .before .before .before))
 
--- src/lib.rt:280:9
 slice-write-work : tie.Need-slice-write-work Inv-loop μ-loop
 slice-write-work c = let a = c .before .before in omega (arith, bounds (a .before .before), a .verdict .ensures .kept .len)
 
--- src/lib.rt:278:9
 add-at : tie.Need-add-at Inv-loop μ-loop
 add-at c = omega (arith, bounds (c .before .before .before .before))
 
--- src/lib.rt:278:5
 loop-less : tie.Need-loop-less Inv-loop μ-loop
 loop-less c = omega (arith, bounds (c .before .before .before .before))
 
--- src/lib.rt:278:5
 loop-again : tie.Need-loop-again Inv-loop μ-loop
 loop-again c =
     let a = c .before .before in
@@ -100,11 +87,9 @@ loop-again c =
       omega (arith, bounds i),
     )
 
--- src/lib.rt:261:1
 same-length : tie.Need-same-length Inv-loop μ-loop
 same-length c = c .before .loop .inv .0 .kept .len
 
--- src/lib.rt:261:1
 returns : tie.Need-returns Inv-loop μ-loop
 returns c =
     let s = c .before .before .before .before in

@@ -1,32 +1,24 @@
 -- `orphans::is_large`. Assumes nothing.
-use Prim.Native.Nat.{ℕ, _+_, _-_, _≤_}
-use mathlib.Core.Path.{_≡_, sym, ap, ap₂, _∙_}
+use Prim.Native.Nat.{_+_, _≤_}
+use mathlib.Core.Path.{_≡_, sym, _∙_}
 use native.Mathlib.Omega.{arith}
-use lib.Dec.{leb}
 use lib.ListN.{getD}
-use Rattle.grid.specs.Planes.{plane, endOf}
+use Rattle.grid.specs.Planes.{plane}
 use Rattle.grid.proofs.Planes.{plane-read}
 use Rattle.orphans.proofs.Desks.{big-none, big-some}
 use borrow.Author.Needs.{needs}
 use Rattle.orphans.proofs.is_large.Statement.{statement}
 use Rattle.orphans.proofs.is_large.Tie as tie
-use Rattle.orphans.proofs.is_large.Reads as reads
-use Rattle.orphans.proofs.is_large.Lts as lts
-use Rattle.orphans.proofs.region_end.Reads as region-end-reads
 
--- src/lib.rt:95:22
 add-label : tie.Need-add-label
 add-label c = search needs
 
--- src/lib.rt:95:17
 mul-label : tie.Need-mul-label
 mul-label c = search needs
 
--- src/lib.rt:95:17
 shared-slice-read-label : tie.Need-shared-slice-read-label
 shared-slice-read-label c = search needs
 
--- src/lib.rt:95:17
 cast-label : tie.Need-cast-label
 cast-label c = let s = c .before .before in omega (arith, c .shared-slice-known2 .given (s .args .n + s .args .q))
 
@@ -37,30 +29,24 @@ label-is c = let s = c .before .before in plane-read (s .args .n) 1 (s .args .q)
 named : (c : tie.After-shared-slice-known2) → getD (c .before .before .args .work .now) (c .before .before .args .n + c .before .before .args .q) 0 ≤ c .before .before .args .n
 named c = let s = c .before .before in rw (label-is c) (s .pre .0 .named (s .args .q) (s .pre .1))
 
--- src/lib.rt:97:9
 returns : tie.Need-returns
 returns c = big-none _ _ _ _ (sym (label-is (c .before)) ∙ c .if1 .taken)
 
--- src/lib.rt:99:16
 sub-last : tie.Need-sub-last
 sub-last c = search needs
 
--- src/lib.rt:100:9
 region-end-requires : tie.Need-region-end-requires
 region-end-requires c κs = omega (arith, named (c .before), c .before .before .before .pre .0 .room)
 
--- src/lib.rt:101:9
 region-end-requires-2 : tie.Need-region-end-requires-2
 region-end-requires-2 c κs = omega (arith, named (c .before .before), c .before .before .before .before .pre .0 .room)
 
--- src/lib.rt:102:14
 sub-result : tie.Need-sub-result
 sub-result c =
     let a = c .before .before .before in
     let s = a .before .before in
     rw (c .before .region-end .ensures, c .region-end2 .ensures, label-is a) (s .pre .0 .rising (s .args .q) (s .pre .1))
 
--- src/lib.rt:90:1
 returns-2 : tie.Need-returns-2
 returns-2 c =
     let a = c .before .before .before in

@@ -1,14 +1,12 @@
 -- `orphans::most`: the greatest of the counts so far. Assumes nothing.
 use mathlib.Core.Path.{_≡_, ap, _∙_}
 use mathlib.Core.Logic.{⊎-elim}
-use Prim.Native.Nat.{ℕ, _-_, _≤_}
+use Prim.Native.Nat.{_-_, _≤_}
 use native.Mathlib.Omega.{arith}
 use Rattle.orphans.specs.Choice.{peak}
 use Rattle.orphans.proofs.Choosing.{peak-start, peak-more, peak-same}
 use Rattle.orphans.proofs.most.Statement.{statement}
 use Rattle.orphans.proofs.most.Tie as tie
-use Rattle.orphans.proofs.most.Reads as reads
-use Rattle.orphans.proofs.most.Lts as lts
 
 abbrev Inv-loop : tie.InvT-loop
 Inv-loop counts k best₀ c₀ best c = (best ≡ peak counts c) × (c ≤ k)
@@ -16,35 +14,27 @@ Inv-loop counts k best₀ c₀ best c = (best ≡ peak counts c) × (c ≤ k)
 abbrev μ-loop : tie.MeasureT-loop
 μ-loop counts k best₀ c₀ best c = k - c
 
--- src/lib.rt:22:5
 loop-holds : tie.Need-loop-holds Inv-loop μ-loop
 loop-holds c = (peak-start _, omega arith)
 
--- src/lib.rt:23:19
 mul-if1 : tie.Need-mul-if1 Inv-loop μ-loop
 mul-if1 c = omega arith
 
--- src/lib.rt:23:19
 element-copy-out-if1 : tie.Need-element-copy-out-if1 Inv-loop μ-loop
 element-copy-out-if1 c = omega arith
 
--- src/lib.rt:24:20
 mul-best : tie.Need-mul-best Inv-loop μ-loop
 mul-best c = omega arith
 
--- src/lib.rt:24:20
 element-copy-out-best : tie.Need-element-copy-out-best Inv-loop μ-loop
 element-copy-out-best c = omega arith
 
--- src/lib.rt:22:9
 add-c : tie.Need-add-c Inv-loop μ-loop
 add-c c = omega arith
 
--- src/lib.rt:22:5
 loop-less : tie.Need-loop-less Inv-loop μ-loop
 loop-less c = omega arith
 
--- src/lib.rt:22:5
 loop-again : tie.Need-loop-again Inv-loop μ-loop
 loop-again c =
     let a = c .before .before .before in
@@ -54,7 +44,6 @@ loop-again c =
     (λ w. (w .1 ∙ peak-same l (a .loop .c) (a .loop .best) (a .loop .inv .0) (w .0 .left), omega arith))
     (c .if1 .came)
 
--- src/lib.rt:17:1
 returns : tie.Need-returns Inv-loop μ-loop
 returns c =
     let e : c .before .loop .c ≡ c .before .before .args .k = omega arith in

@@ -1,31 +1,23 @@
 -- `orphans::nearer`, case by case. Assumes nothing.
-use mathlib.Core.Path.{sym}
 use Rattle.orphans.specs.Choice.{nearer}
 use borrow.Author.Needs.{needs}
 use Rattle.orphans.proofs.nearer.Statement.{statement}
 use Rattle.orphans.proofs.nearer.Tie as tie
-use Rattle.orphans.proofs.nearer.Reads as reads
-use Rattle.orphans.proofs.nearer.Lts as lts
 
--- src/lib.rt:34:23
 enum-known-t : tie.Need-enum-known-t
 enum-known-t c = search needs
 
--- src/lib.rt:35:9
 enum-told : tie.Need-enum-told
 enum-told c = search needs
 
--- src/lib.rt:35:9
 returns : tie.Need-returns
 unfolding nearer
 returns c = rw (c .enum-told .given .1)
 
--- src/lib.rt:38:9
 returns-2 : tie.Need-returns-2
 unfolding nearer
 returns-2 c = rw (c .before .before .t .given .1, c .if1 .taken)
 
--- src/lib.rt:31:1
 returns-3 : tie.Need-returns-3
 unfolding nearer
 returns-3 c = rw (c .before .before .t .given .1, c .if1 .left)

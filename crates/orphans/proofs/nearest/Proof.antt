@@ -1,18 +1,13 @@
 -- `orphans::nearest`: the nearest so far. Assumes nothing.
-use mathlib.Core.Path.{_≡_, sym, ap, ap₂, _∙_}
+use mathlib.Core.Path.{_≡_, ap, ap₂, _∙_}
 use mathlib.Core.Logic.{⊎-elim}
-use Prim.Native.Nat.{ℕ, _-_, _≤_}
+use Prim.Native.Nat.{_-_, _≤_}
 use native.Mathlib.Omega.{arith}
 use Rattle.color.specs.Lab.{entry, distance}
 use Rattle.orphans.specs.Choice.{apart, nearer, nearest}
 use Rattle.orphans.proofs.Choosing.{nearest-start, nearest-more, nearest-same}
 use Rattle.orphans.proofs.nearest.Statement.{statement}
 use Rattle.orphans.proofs.nearest.Tie as tie
-use Rattle.orphans.proofs.nearest.Reads as reads
-use Rattle.orphans.proofs.nearest.Lts as lts
-use Rattle.color.proofs.cielab.distance.Reads as distance-reads
-use Rattle.color.proofs.cielab.entry.Reads as entry-reads
-use Rattle.orphans.proofs.nearer.Reads as nearer-reads
 
 abbrev Inv-loop : tie.InvT-loop
 Inv-loop counts m palette k own from best₀ c₀ best c = (best ≡ nearest (apart palette own) counts m c) × (c ≤ k)
@@ -20,43 +15,33 @@ Inv-loop counts m palette k own from best₀ c₀ best c = (best ≡ nearest (ap
 abbrev μ-loop : tie.MeasureT-loop
 μ-loop counts m palette k own from best₀ c₀ best c = k - c
 
--- src/lib.rt:48:9
 entry-requires : tie.Need-entry-requires Inv-loop μ-loop
 entry-requires c κs = omega arith
 
--- src/lib.rt:50:5
 loop-holds : tie.Need-loop-holds Inv-loop μ-loop
 loop-holds c = (nearest-start _ _ _, omega arith)
 
--- src/lib.rt:51:12
 mul-if1 : tie.Need-mul-if1 Inv-loop μ-loop
 mul-if1 c = omega arith
 
--- src/lib.rt:51:12
 element-copy-out-if1 : tie.Need-element-copy-out-if1 Inv-loop μ-loop
 element-copy-out-if1 c = omega arith
 
--- src/lib.rt:52:51
 entry-requires-2 : tie.Need-entry-requires-2 Inv-loop μ-loop
 entry-requires-2 c κs = omega arith
 
--- src/lib.rt:52:36
 distance-requires : tie.Need-distance-requires Inv-loop μ-loop
 distance-requires c κs = tt
 
--- src/lib.rt:52:13
 nearer-requires : tie.Need-nearer-requires Inv-loop μ-loop
 nearer-requires c κs = tt
 
--- src/lib.rt:50:9
 add-c : tie.Need-add-c Inv-loop μ-loop
 add-c c = omega arith
 
--- src/lib.rt:50:5
 loop-less : tie.Need-loop-less Inv-loop μ-loop
 loop-less c = omega arith
 
--- src/lib.rt:50:5
 loop-again : tie.Need-loop-again Inv-loop μ-loop
 unfolding apart
 loop-again c =
@@ -74,7 +59,6 @@ loop-again c =
     (λ w. (w .1 ∙ nearest-same (apart u (s .args .own)) (s .args .counts .now) (s .args .m) i (l .loop .best) (l .loop .inv .0) (w .0 .left), omega arith))
     (c .if1 .came)
 
--- src/lib.rt:44:1
 returns : tie.Need-returns Inv-loop μ-loop
 returns c =
     let s = c .before .before .before .before in

@@ -1,16 +1,13 @@
 -- `orphans::paint`: the places so far. Assumes nothing.
-use mathlib.Core.Path.{_≡_, ap, _∙_, subst}
+use mathlib.Core.Path.{_≡_, subst}
 use mathlib.Core.Logic.{⊎-elim}
-use mathlib.Core.Bool.{Bool, _||_}
-use Prim.Native.Nat.{ℕ, _+_, _-_, _≤_}
+use mathlib.Core.Bool.{_||_}
+use Prim.Native.Nat.{ℕ, _-_, _≤_}
 use native.Mathlib.Omega.{arith}
 use Rattle.orphans.specs.Passing.{Coloured}
 use Rattle.orphans.proofs.Painting.{coloured-start, coloured-on}
 use Rattle.orphans.proofs.paint.Statement.{statement}
 use Rattle.orphans.proofs.paint.Tie as tie
-use Rattle.orphans.proofs.paint.Reads as reads
-use Rattle.orphans.proofs.paint.Lts as lts
-use Rattle.orphans.proofs.settle.Reads as settle-reads
 
 abbrev Inv-loop : tie.InvT-loop
 Inv-loop work₀ n moved₀ p₀ work moved p = Coloured n p work₀ work moved × (p ≤ n)
@@ -18,14 +15,12 @@ Inv-loop work₀ n moved₀ p₀ work moved p = Coloured n p work₀ work moved 
 abbrev μ-loop : tie.MeasureT-loop
 μ-loop work₀ n moved₀ p₀ work moved p = n - p
 
--- src/lib.rt:312:5
 loop-holds : tie.Need-loop-holds Inv-loop μ-loop
 loop-holds c = (coloured-start (c .before .args .n) (c .before .args .work .now), omega arith)
 
 abbrev start : tie.In-loop Inv-loop μ-loop → tie.Start Inv-loop μ-loop
 start c = c .before .before .before
 
--- src/lib.rt:313:12
 settle-requires : tie.Need-settle-requires Inv-loop μ-loop
 settle-requires c κs =
     let i = c .before in
@@ -36,15 +31,12 @@ settle-requires c κs =
       rw (u .label (i .before .loop .p) (i .loop-test .taken)) (s .pre .1 (i .before .loop .p) (i .loop-test .taken)),
     )
 
--- src/lib.rt:312:9
 add-p : tie.Need-add-p Inv-loop μ-loop
 add-p c = omega arith
 
--- src/lib.rt:312:5
 loop-less : tie.Need-loop-less Inv-loop μ-loop
 loop-less c = omega arith
 
--- src/lib.rt:312:5
 loop-again : tie.Need-loop-again Inv-loop μ-loop
 loop-again c =
     let a = c .before .before .before in
@@ -54,11 +46,9 @@ loop-again c =
     let e : c .if1 .moved ≡ (a .settle .result || i .before .loop .moved) = ⊎-elim (λ w. rw (w .0 .taken) (w .1)) (λ w. rw (w .0 .left) (w .1)) (c .if1 .came) in
     (rw e u, omega arith)
 
--- src/lib.rt:307:1
 same-length : tie.Need-same-length Inv-loop μ-loop
 same-length c = c .before .loop .inv .0 .len
 
--- src/lib.rt:307:1
 returns : tie.Need-returns Inv-loop μ-loop
 returns c =
     let s = c .before .before .before in

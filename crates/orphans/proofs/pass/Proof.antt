@@ -1,34 +1,21 @@
 -- `orphans::pass`: label, decide, paint. Assumes nothing.
-use mathlib.Core.Path.{_≡_, ap, _∙_}
-use native.Mathlib.Omega.{arith}
 use Rattle.orphans.proofs.Passes.{Sought, sought, paint-ready, passed}
 use borrow.Author.Needs.{needs}
 use Rattle.orphans.proofs.pass.Statement.{statement}
 use Rattle.orphans.proofs.pass.Tie as tie
-use Rattle.orphans.proofs.pass.Reads as reads
-use Rattle.orphans.proofs.pass.Lts as lts
-use Rattle.grid.proofs.label.label_planes.Reads as label-planes-reads
-use Rattle.orphans.proofs.decide_all.Reads as decide-all-reads
-use Rattle.orphans.proofs.paint.Reads as paint-reads
-use Rattle.orphans.proofs.wipe.Reads as wipe-reads
 
--- src:348:13
 mul-n : tie.Need-mul-n
 mul-n c = search needs
 
--- src:349:9
 label-planes-requires : tie.Need-label-planes-requires
 label-planes-requires c κs = search needs
 
--- src:350:17
 cast-count : tie.Need-cast-count
 cast-count c = search needs
 
--- src:351:16
 mul-wipe : tie.Need-mul-wipe
 mul-wipe c = search needs
 
--- src:351:5
 wipe-requires : tie.Need-wipe-requires
 wipe-requires c κs = search needs
 
@@ -44,7 +31,6 @@ decide-all-requires c κs =
     let s = c .before .before .before .before .before .before .before .before .before .before .before .before in
     (r .desk, ((r .known, s .pre .1 .1), (r .full, r .blank)))
 
--- src:353:5
 paint-requires : tie.Need-paint-requires
 paint-requires c κs =
     let d = c .before .before .before in
@@ -52,11 +38,9 @@ paint-requires c κs =
     let s = u .before .before .before .before .before .before .before .before .before in
     paint-ready (ready u) (s .args .limit) (s .args .palette .now) (s .args .max-delta) (d .decide-all .ensures)
 
--- src:334:1
 same-length : tie.Need-same-length
 same-length c = search needs
 
--- src:334:1
 returns : tie.Need-returns
 returns c =
     let p = c .before .before in

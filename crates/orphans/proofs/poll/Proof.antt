@@ -3,7 +3,6 @@ use mathlib.Core.Path.{_≡_, _∙_, subst}
 use Prim.Native.Nat.{ℕ, _+_, _-_, _*_, _≤_, _<_}
 use native.Mathlib.Omega.{arith}
 use lib.ListN.{length, getD}
-use Rattle.grid.specs.Steps.{hood}
 use Rattle.grid.specs.Planes.{plane}
 use Rattle.grid.proofs.Places.{area}
 use Rattle.grid.proofs.Planes.{plane-read}
@@ -12,9 +11,6 @@ use Rattle.orphans.proofs.Desks.{desk-kept}
 use Rattle.orphans.proofs.Votes.{Beside, beside-start, beside-on}
 use Rattle.orphans.proofs.poll.Statement.{statement}
 use Rattle.orphans.proofs.poll.Tie as tie
-use Rattle.orphans.proofs.poll.Reads as reads
-use Rattle.orphans.proofs.poll.Lts as lts
-use Rattle.orphans.proofs.vote_all.Reads as vote-all-reads
 
 abbrev Inv-loop : tie.InvT-loop
 Inv-loop work₀ h w steps from to limit mark counts₀ n i₀ work counts i = Polled (h * w) limit mark (Beside h w steps work₀ from i) work₀ work counts × (from ≤ i) × (i ≤ to)
@@ -22,11 +18,9 @@ Inv-loop work₀ h w steps from to limit mark counts₀ n i₀ work counts i = P
 abbrev μ-loop : tie.MeasureT-loop
 μ-loop work₀ h w steps from to limit mark counts₀ n i₀ work counts i = to - i
 
--- src/lib.rt:201:13
 mul-n : tie.Need-mul-n Inv-loop μ-loop
 mul-n c = let s = c .before in omega (arith, area (s .args .h) (s .args .w) (s .pre .0 .rows) (s .pre .0 .cols))
 
--- src/lib.rt:202:5
 loop-holds : tie.Need-loop-holds Inv-loop μ-loop
 loop-holds c =
     let s = c .before in (
@@ -65,27 +59,21 @@ place-is c =
 place-in : (c : tie.In-loop Inv-loop μ-loop) → getD (c .before .loop .work) (2 * (start c .args .h * start c .args .w) + c .before .loop .i) 0 < start c .args .h * start c .args .w
 place-in c = rw (place-is c) (start c .pre .1 .0 .2 (c .before .loop .i) (c .loop-test .taken))
 
--- src/lib.rt:203:22
 mul-p : tie.Need-mul-p Inv-loop μ-loop
 mul-p c = omega (arith, bounds c)
 
--- src/lib.rt:203:22
 add-p : tie.Need-add-p Inv-loop μ-loop
 add-p c = omega (arith, bounds c)
 
--- src/lib.rt:203:17
 mul-p-2 : tie.Need-mul-p-2 Inv-loop μ-loop
 mul-p-2 c = omega (arith, bounds c)
 
--- src/lib.rt:203:17
 slice-read-p : tie.Need-slice-read-p Inv-loop μ-loop
 slice-read-p c = omega (arith, bounds (c .before))
 
--- src/lib.rt:203:17
 cast-p : tie.Need-cast-p Inv-loop μ-loop
 cast-p c = omega (arith, place-in (c .before), bounds (c .before))
 
--- src/lib.rt:204:9
 vote-all-requires : tie.Need-vote-all-requires Inv-loop μ-loop
 vote-all-requires c κs =
     let i = c .before .before .before in
@@ -93,15 +81,12 @@ vote-all-requires c κs =
     let u = i .before .loop .inv .0 in
     (desk-kept (s .args .h) (s .args .w) (s .args .steps) (s .args .work .now) (s .pre .0) (i .before .loop .work) (u .kept), (place-in i, u .tally))
 
--- src/lib.rt:202:9
 add-i : tie.Need-add-i Inv-loop μ-loop
 add-i c = omega (arith, bounds (c .before .before .before .before .before .before))
 
--- src/lib.rt:202:5
 loop-less : tie.Need-loop-less Inv-loop μ-loop
 loop-less c = omega (arith, bounds (c .before .before .before .before .before .before))
 
--- src/lib.rt:202:5
 loop-again : tie.Need-loop-again Inv-loop μ-loop
 loop-again c =
     let v = c .before .before in
@@ -113,11 +98,9 @@ loop-again c =
       omega (arith, bounds i),
     )
 
--- src/lib.rt:185:1
 same-length : tie.Need-same-length Inv-loop μ-loop
 same-length c = c .before .loop .inv .0 .kept .len
 
--- src/lib.rt:185:1
 returns : tie.Need-returns Inv-loop μ-loop
 returns c =
     let s = c .before .before .before in

@@ -1,25 +1,15 @@
 -- `orphans::refused`: row by row. Assumes nothing.
-use Prim.Native.Nat.{ℕ, _*_, _≤_, _<_}
-use mathlib.Core.Path.{_≡_, refl, sym, _∙_}
+use mathlib.Core.Path.{_≡_, sym, _∙_}
 use native.Mathlib.Nat.{mul-le-mul}
 use native.Mathlib.Omega.{arith}
 use mir.Facts.{toZ-ofZ}
 use Rattle.base.specs.declared.Filling.{Filling}
 use Rattle.base.specs.Refusals.{refusal, filling}
-use Rattle.rules.specs.Entries.{orphansRefusal}
-use Rattle.rules.specs.Palette.{paletteOf}
-use Rattle.orphans.specs.Entry.{limitsAt}
 use Rattle.orphans.proofs.Refusing as rows
 use Rattle.orphans.proofs.Refusing.{never}
 use borrow.Author.Needs.{needs}
 use Rattle.orphans.proofs.refused.Statement.{statement}
 use Rattle.orphans.proofs.refused.Tie as tie
-use Rattle.orphans.proofs.refused.Reads as reads
-use Rattle.orphans.proofs.refused.Lts as lts
-use Rattle.checks.proofs.bad_palette.Reads as bad-palette-reads
-use Rattle.checks.proofs.bad_colour.Reads as bad-colour-reads
-use Rattle.orphans.proofs.bad_index.Reads as bad-index-reads
-use Rattle.orphans.proofs.bad_limits.Reads as bad-limits-reads
 
 abbrev call : tie.Start → rows.Call
 call s =
@@ -54,69 +44,54 @@ at6 c e = at5 (c .before .before) (rows.past5 (call (c .before .before .before .
 at7 : {x : Filling} (c : tie.Else7) → x ≡ filling (refusal (rows.from7 (call (c .before .before .before .before .before .before .before .before .before .before .before)))) → x ≡ rows.answer (call (c .before .before .before .before .before .before .before .before .before .before .before))
 at7 c e = at6 (c .before .before) (rows.past6 (call (c .before .before .before .before .before .before .before .before .before .before .before)) (sym (c .before .bad-limits .ensures) ∙ c .if7 .left) e)
 
--- src/lib.rt:472:9
 returns : tie.Need-returns
 returns c = let s = c .before .before in (rows.tall (call s) (c .if1 .taken), never 1)
 
--- src/lib.rt:475:9
 returns-2 : tie.Need-returns-2
 returns-2 c = let s = c .before .before .before in (rows.wide (call s) (c .if2 .taken), never 1)
 
--- src/lib.rt:477:13
 mul-n : tie.Need-mul-n
 mul-n c = omega (arith, mul-le-mul (c .before .if1 .left) (c .if2 .left))
 
--- src/lib.rt:479:9
 returns-3 : tie.Need-returns-3
 returns-3 c = let s = c .before .before .before .before in (at2 (c .before) (rows.short (call s) (c .if3 .taken)), never 2)
 
--- src/lib.rt:481:15
 mul-if4 : tie.Need-mul-if4
 mul-if4 c = search needs
 
--- src/lib.rt:482:9
 returns-4 : tie.Need-returns-4
 returns-4 c = let s = c .before .before .before .before .before in (at3 (c .before) (rows.narrow (call s) (c .if4 .taken)), never 3)
 
--- src/lib.rt:484:8
 bad-palette-requires : tie.Need-bad-palette-requires
 bad-palette-requires c κs = search needs
 
--- src/lib.rt:485:9
 returns-5 : tie.Need-returns-5
 returns-5 c = let s = c .before .before .before .before .before .before .before in (at4 (c .before .before) (rows.fourth (call s) (sym (c .before .bad-palette .ensures) ∙ c .if5 .taken)), never 4)
 
--- src/lib.rt:487:8
 bad-colour-requires : tie.Need-bad-colour-requires
 bad-colour-requires c κs =
     let s = c .before .before .before .before .before .before .before in
     let f = rows.few-entries (call s) (sym (c .before .bad-palette .ensures) ∙ c .if5 .left) in
     (omega (arith, f .0, f .1), f .0)
 
--- src/lib.rt:488:9
 returns-6 : tie.Need-returns-6
 returns-6 c = let s = c .before .before .before .before .before .before .before .before .before in (at5 (c .before .before) (rows.fifth (call s) (sym (c .before .bad-colour .ensures) ∙ c .if6 .taken)), never 5)
 
--- src/lib.rt:490:8
 bad-limits-requires : tie.Need-bad-limits-requires
 bad-limits-requires c κs = search needs
 
--- src/lib.rt:491:9
 returns-7 : tie.Need-returns-7
 returns-7 c = let s = c .before .before .before .before .before .before .before .before .before .before .before in (at6 (c .before .before) (rows.sixth (call s) (sym (c .before .bad-limits .ensures) ∙ c .if7 .taken)), never 6)
 
--- src/lib.rt:493:8
 bad-index-requires : tie.Need-bad-index-requires
 bad-index-requires c κs =
     let p = c .before .before .before .before in
     let s = p .before .before .before .before .before .before .before in
     (rows.few-entries (call s) (sym (p .before .bad-palette .ensures) ∙ p .if5 .left) .0, p .before .before .before .if3 .left)
 
--- src/lib.rt:494:9
 returns-8 : tie.Need-returns-8
 returns-8 c = let s = c .before .before .before .before .before .before .before .before .before .before .before .before .before in (at7 (c .before .before) (rows.seventh (call s) (sym (rw (toZ-ofZ (s .fits .min-region)) at (c .before .bad-index .ensures)) ∙ c .if8 .taken)), never 7)
 
--- src/lib.rt:457:1
 returns-9 : tie.Need-returns-9
 returns-9 c =
     let p = c .before .before .before .before .before .before in

@@ -3,34 +3,25 @@ use Rattle.orphans.proofs.Desks.{end-none, end-read}
 use borrow.Author.Needs.{needs}
 use Rattle.orphans.proofs.region_end.Statement.{statement}
 use Rattle.orphans.proofs.region_end.Tie as tie
-use Rattle.orphans.proofs.region_end.Reads as reads
-use Rattle.orphans.proofs.region_end.Lts as lts
 
--- src/lib.rt:83:9
 returns : tie.Need-returns
 returns c = end-none _ _ _ (c .if1 .taken)
 
--- src/lib.rt:85:16
 sub-last : tie.Need-sub-last
 sub-last c = search needs
 
--- src/lib.rt:86:10
 mul-result : tie.Need-mul-result
 mul-result c = search needs
 
--- src/lib.rt:86:10
 add-result : tie.Need-add-result
 add-result c = search needs
 
--- src/lib.rt:86:5
 mul-result-2 : tie.Need-mul-result-2
 mul-result-2 c = search needs
 
--- src/lib.rt:86:5
 shared-slice-read-result : tie.Need-shared-slice-read-result
 shared-slice-read-result c = search needs
 
--- src/lib.rt:78:1
 returns-2 : tie.Need-returns-2
 returns-2 c = end-read _ _ _ (c .before .if1 .left)
 

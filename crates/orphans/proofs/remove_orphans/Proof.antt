@@ -1,5 +1,5 @@
 -- `orphans::remove_orphans`: checked, then cleaned. Assumes nothing.
-use mathlib.Core.Path.{_≡_, refl, sym, ap, _∙_}
+use mathlib.Core.Path.{sym, _∙_}
 use lib.ListN.{length}
 use mir.Facts.{toZ-ofZ}
 use Rattle.grid.proofs.Answers.{filling-done, filling-refused}
@@ -7,10 +7,6 @@ use Rattle.orphans.proofs.Refusing.{Call, answered, answered-refused}
 use borrow.Author.Needs.{needs}
 use Rattle.orphans.proofs.remove_orphans.Statement.{statement}
 use Rattle.orphans.proofs.remove_orphans.Tie as tie
-use Rattle.orphans.proofs.remove_orphans.Reads as reads
-use Rattle.orphans.proofs.remove_orphans.Lts as lts
-use Rattle.orphans.proofs.clean_sheet.Reads as clean-sheet-reads
-use Rattle.orphans.proofs.refused.Reads as refused-reads
 
 abbrev call : tie.Start → Call
 call s =
@@ -26,19 +22,15 @@ call s =
       work = length (s .args .work .now);
     }
 
--- src/lib.rt:515:9
 refused-requires : tie.Need-refused-requires
 refused-requires c κs = search needs
 
--- src/lib.rt:526:29
 enum-known-checked : tie.Need-enum-known-checked
 enum-known-checked c = search needs
 
--- src/lib.rt:527:9
 same-length : tie.Need-same-length
 same-length c = search needs
 
--- src/lib.rt:527:9
 returns : tie.Need-returns
 returns c =
     let f = c .before .before .before in
@@ -48,21 +40,17 @@ returns c =
 enum-told : tie.Need-enum-told
 enum-told c = search needs
 
--- src/lib.rt:529:9
 clean-sheet-requires : tie.Need-clean-sheet-requires
 clean-sheet-requires c κs =
     let f = c .before .before .before .before in
     f .refused .ensures .1 (c .before .before .enum-told .given .1)
 
--- src/lib.rt:501:1
 same-length-2 : tie.Need-same-length-2
 same-length-2 c = search needs
 
--- src/lib.rt:501:1
 same-length-3 : tie.Need-same-length-3
 same-length-3 c = search needs
 
--- src/lib.rt:501:1
 returns-2 : tie.Need-returns-2
 returns-2 c =
     let v = c .before .before .before in

@@ -1,8 +1,8 @@
 -- `orphans::settle`, way out by way out. Assumes nothing.
 use mathlib.Core.Path.{_≡_, sym, ap, _∙_}
-use Prim.Native.Nat.{ℕ, _+_, _-_, _*_, _≤_, _<_}
+use Prim.Native.Nat.{ℕ, _+_, _-_, _*_, _≤_}
 use native.Mathlib.Omega.{arith}
-use lib.ListN.{length, getD}
+use lib.ListN.{getD}
 use Rattle.grid.specs.Planes.{plane}
 use Rattle.grid.proofs.Planes.{plane-read}
 use Rattle.orphans.specs.Passing.{numberAt, Settled}
@@ -10,22 +10,16 @@ use Rattle.orphans.proofs.Painting.{number-none, number-some, settled-t
 use borrow.Author.Needs.{needs}
 use Rattle.orphans.proofs.settle.Statement.{statement}
 use Rattle.orphans.proofs.settle.Tie as tie
-use Rattle.orphans.proofs.settle.Reads as reads
-use Rattle.orphans.proofs.settle.Lts as lts
 
--- src/lib.rt:289:22
 add-label : tie.Need-add-label
 add-label c = search needs
 
--- src/lib.rt:289:17
 mul-label : tie.Need-mul-label
 mul-label c = search needs
 
--- src/lib.rt:289:17
 slice-read-label : tie.Need-slice-read-label
 slice-read-label c = search needs
 
--- src/lib.rt:289:17
 cast-label : tie.Need-cast-label
 cast-label c = let s = c .before in omega (arith, c .slice-known .given (s .args .n + s .args .p))
 
@@ -38,31 +32,24 @@ label-is c = plane-read (c .args .n) 1 (c .args .p) (c .args .n + c .args .p) (c
 label-in : (c : tie.Start) → labelAt c ≤ c .args .n
 label-in c = rw (label-is c) (c .pre .2)
 
--- src/lib.rt:291:9
 returns : tie.Need-returns
 returns c = let s = c .before .before in Settled.stays (number-none (s .args .n) (s .args .work .now) (s .args .p) (sym (label-is s) ∙ c .if1 .taken))
 
--- src/lib.rt:293:14
 sub-at : tie.Need-sub-at
 sub-at c = search needs
 
--- src/lib.rt:294:18
 mul-v : tie.Need-mul-v
 mul-v c = search needs
 
--- src/lib.rt:294:18
 add-v : tie.Need-add-v
 add-v c = omega (arith, label-in (c .before .before))
 
--- src/lib.rt:294:13
 mul-v-2 : tie.Need-mul-v-2
 mul-v-2 c = omega (arith, label-in (c .before .before))
 
--- src/lib.rt:294:13
 slice-read-v : tie.Need-slice-read-v
 slice-read-v c = omega (arith, label-in (c .before .before .before))
 
--- src/lib.rt:296:9
 -- what is read is the number
 abbrev read : tie.After-slice-known2 → ℕ
 read c = let s = c .before .before .before in getD (s .args .work .now) (6 * s .args .n + (labelAt s - 1)) 0
@@ -77,47 +64,36 @@ number-is c =
 returns-2 : tie.Need-returns-2
 returns-2 c = Settled.stays (number-is (c .before) ∙ c .if2 .taken)
 
--- src/lib.rt:299:14
 mul-work : tie.Need-mul-work
 mul-work c = search needs
 
--- src/lib.rt:299:14
 add-work : tie.Need-add-work
 add-work c = search needs
 
--- src/lib.rt:299:9
 mul-work-2 : tie.Need-mul-work-2
 mul-work-2 c = search needs
 
--- src/lib.rt:299:9
 slice-write-work : tie.Need-slice-write-work
 slice-write-work c = search needs
 
--- src/lib.rt:300:9
 same-length : tie.Need-same-length
 same-length c = search needs
 
--- src/lib.rt:300:9
 returns-3 : tie.Need-returns-3
 returns-3 c = Settled.freezes (number-is (c .before .before) ∙ c .if3 .taken)
 
--- src/lib.rt:302:15
 sub-work : tie.Need-sub-work
 sub-work c = search needs
 
--- src/lib.rt:302:5
 mul-work-3 : tie.Need-mul-work-3
 mul-work-3 c = search needs
 
--- src/lib.rt:302:5
 slice-write-work-2 : tie.Need-slice-write-work-2
 slice-write-work-2 c = search needs
 
--- src/lib.rt:285:1
 same-length-2 : tie.Need-same-length-2
 same-length-2 c = search needs
 
--- src/lib.rt:285:1
 returns-4 : tie.Need-returns-4
 returns-4 c =
     let a = c .before .before in

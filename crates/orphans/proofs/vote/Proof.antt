@@ -1,22 +1,16 @@
 -- `orphans::vote`: the cell that a step finds. Assumes nothing.
-use Prim.Native.Nat.{ℕ, _*_, _<_}
+use Prim.Native.Nat.{_*_}
 use mathlib.Core.Path.{_≡_, sym, _∙_}
-use mathlib.Core.Option.{some, none}
+use mathlib.Core.Option.{some}
 use mir.Facts.{toZ-ofZ}
 use Rattle.rules.specs.Grid.{stepTo}
-use Rattle.grid.specs.declared.Step.the-variants.{Cell, Off}
 use Rattle.grid.specs.Steps.{stepOf}
 use Rattle.grid.proofs.Places.{step-cell, step-off, step-sound}
 use Rattle.orphans.proofs.Votes.{polled-off, polled-on}
 use borrow.Author.Needs.{needs}
 use Rattle.orphans.proofs.vote.Statement.{statement}
 use Rattle.orphans.proofs.vote.Tie as tie
-use Rattle.orphans.proofs.vote.Reads as reads
-use Rattle.orphans.proofs.vote.Lts as lts
-use Rattle.grid.proofs.neighbour.Reads as neighbour-reads
-use Rattle.orphans.proofs.ask.Reads as ask-reads
 
--- src/lib.rt:152:25
 neighbour-requires : tie.Need-neighbour-requires
 neighbour-requires c κs =
     let s = c .before in
@@ -29,15 +23,12 @@ neighbour-requires c κs =
 found : (c : tie.After-neighbour) → c .neighbour .result ≡ stepOf (stepTo (c .before .before .args .h) (c .before .before .args .w) (c .before .before .args .y) (c .before .before .args .x) (c .before .before .args .dy) (c .before .before .args .dx))
 found c = let s = c .before .before in rw (toZ-ofZ (s .fits .dy), toZ-ofZ (s .fits .dx)) at (c .neighbour .ensures)
 
--- src/lib.rt:152:20
 enum-known-q : tie.Need-enum-known-q
 enum-known-q c = search needs
 
--- src/lib.rt:153:9
 enum-told : tie.Need-enum-told
 enum-told c = search needs
 
--- src/lib.rt:153:9
 returns : tie.Need-returns
 returns c =
     let a = c .before .before in
@@ -48,22 +39,18 @@ returns c =
 at : (c : tie.After-q) → stepTo (c .before .before .before .before .args .h) (c .before .before .before .before .args .w) (c .before .before .before .before .args .y) (c .before .before .before .before .args .x) (c .before .before .before .before .args .dy) (c .before .before .before .before .args .dx) ≡ some (c .q .given .0 .0)
 at c = step-cell (sym (found (c .before .before)) ∙ c .q .given .1)
 
--- src/lib.rt:155:13
 mul-n : tie.Need-mul-n
 mul-n c = search needs
 
--- src/lib.rt:156:5
 ask-requires : tie.Need-ask-requires
 ask-requires c κs =
     let a = c .before .before .before in
     let s = a .before .before .before .before in
     (s .pre .0, (step-sound _ _ _ _ _ _ _ (at a) .inside, s .pre .1 .1 .1))
 
--- src/lib.rt:134:1
 same-length : tie.Need-same-length
 same-length c = search needs
 
--- src/lib.rt:134:1
 returns-2 : tie.Need-returns-2
 returns-2 c =
     let v = c .before .before in

@@ -1,6 +1,5 @@
 -- `orphans::vote_all`: the steps from a place. Assumes nothing.
-use mathlib.Core.Path.{_≡_, sym, _∙_}
-use Prim.Native.Nat.{ℕ, _+_, _-_, _*_, _/_, _%_, _≤_, _<_}
+use Prim.Native.Nat.{_-_, _*_, _≤_, _<_}
 use native.Mathlib.Omega.{arith}
 use borrow.Author.Needs.{needs}
 use mir.Syntax.{w32}
@@ -13,9 +12,6 @@ use Rattle.orphans.proofs.Desks.{desk-ready, desk-kept}
 use Rattle.orphans.proofs.Votes.{Reached, reach-start, reach-on, reach-all}
 use Rattle.orphans.proofs.vote_all.Statement.{statement}
 use Rattle.orphans.proofs.vote_all.Tie as tie
-use Rattle.orphans.proofs.vote_all.Reads as reads
-use Rattle.orphans.proofs.vote_all.Lts as lts
-use Rattle.orphans.proofs.vote.Reads as vote-reads
 
 abbrev Inv-loop : tie.InvT-loop
 Inv-loop work₀ h w steps p limit mark counts₀ y x offsets k₀ work counts k = Polled (h * w) limit mark (Reached h w p k) work₀ work counts × (k ≤ steps)
@@ -23,15 +19,12 @@ Inv-loop work₀ h w steps p limit mark counts₀ y x offsets k₀ work counts k
 abbrev μ-loop : tie.MeasureT-loop
 μ-loop work₀ h w steps p limit mark counts₀ y x offsets k₀ work counts k = steps - k
 
--- src/lib.rt:175:13
 div-y : tie.Need-div-y Inv-loop μ-loop
 div-y c = wide _ _ _ (c .before .pre .1 .0)
 
--- src/lib.rt:176:13
 rem-x : tie.Need-rem-x Inv-loop μ-loop
 rem-x c = wide _ _ _ (c .before .pre .1 .0)
 
--- src/lib.rt:178:5
 loop-holds : tie.Need-loop-holds Inv-loop μ-loop
 loop-holds c =
     let s = c .before in
@@ -43,19 +36,15 @@ start c = c .before .before .before
 k-small : (c : tie.In-loop Inv-loop μ-loop) → c .before .loop .k < 8
 k-small c = step-few (start c .args .steps) (start c .pre .0 .ways) (c .before .loop .k) (c .loop-test .taken)
 
--- src/lib.rt:179:17
 mul-o : tie.Need-mul-o Inv-loop μ-loop
 mul-o c = omega (arith, k-small c)
 
--- src/lib.rt:179:17
 array-copy-out-o : tie.Need-array-copy-out-o Inv-loop μ-loop
 array-copy-out-o c = omega (arith, k-small c)
 
--- src/lib.rt:180:32
 array-copy-out-vote : tie.Need-array-copy-out-vote Inv-loop μ-loop
 array-copy-out-vote c = search needs
 
--- src/lib.rt:180:38
 array-copy-out-vote-2 : tie.Need-array-copy-out-vote-2 Inv-loop μ-loop
 array-copy-out-vote-2 c = search needs
 
@@ -66,7 +55,6 @@ rows-fit c = record { sfits = c .before .before .vote-arg2 .given }
 cols-fit : (c : tie.After-vote-arg4 Inv-loop μ-loop) → SFits w32 (colsOf (c .before .before .before .before .before .before .loop .k))
 cols-fit c = record { sfits = c .before .vote-arg3 .given }
 
--- src/lib.rt:180:9
 vote-requires : tie.Need-vote-requires Inv-loop μ-loop
 vote-requires c κs =
     let i = c .before .before .before .before .before in
@@ -85,15 +73,12 @@ vote-requires c κs =
       ),
     )
 
--- src/lib.rt:178:9
 add-k : tie.Need-add-k Inv-loop μ-loop
 add-k c = omega (arith, k-small (c .before .before .before .before .before .before .before .before))
 
--- src/lib.rt:178:5
 loop-less : tie.Need-loop-less Inv-loop μ-loop
 loop-less c = omega (arith, c .before .before .before .before .before .before .before .before .loop-test .taken)
 
--- src/lib.rt:178:5
 loop-again : tie.Need-loop-again Inv-loop μ-loop
 unfolding hop
 loop-again c =
@@ -106,11 +91,9 @@ loop-again c =
       omega (arith, i .loop-test .taken),
     )
 
--- src/lib.rt:160:1
 same-length : tie.Need-same-length Inv-loop μ-loop
 same-length c = c .before .loop .inv .0 .kept .len
 
--- src/lib.rt:160:1
 returns : tie.Need-returns Inv-loop μ-loop
 returns c =
     let s = c .before .before .before in

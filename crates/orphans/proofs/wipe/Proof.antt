@@ -6,8 +6,6 @@ use Rattle.orphans.specs.Passing.{Wiped}
 use Rattle.orphans.proofs.Painting.{wiped-start, wiped-on}
 use Rattle.orphans.proofs.wipe.Statement.{statement}
 use Rattle.orphans.proofs.wipe.Tie as tie
-use Rattle.orphans.proofs.wipe.Reads as reads
-use Rattle.orphans.proofs.wipe.Lts as lts
 
 abbrev Inv-loop : tie.InvT-loop
 Inv-loop work₀ start many i₀ work i = Wiped start i work₀ work × (i ≤ many)
@@ -15,41 +13,32 @@ Inv-loop work₀ start many i₀ work i = Wiped start i work₀ work × (i ≤ m
 abbrev μ-loop : tie.MeasureT-loop
 μ-loop work₀ start many i₀ work i = many - i
 
--- src/lib.rt:325:5
 loop-holds : tie.Need-loop-holds Inv-loop μ-loop
 loop-holds c = (wiped-start (c .args .start) (c .args .work .now), omega arith)
 
--- src/lib.rt:326:14
 add-work : tie.Need-add-work Inv-loop μ-loop
 add-work c = omega (arith, c .before .loop .inv .0 .len)
 
--- src/lib.rt:326:9
 mul-work : tie.Need-mul-work Inv-loop μ-loop
 mul-work c = omega (arith, c .before .loop .inv .0 .len)
 
--- src/lib.rt:326:9
 slice-write-work : tie.Need-slice-write-work Inv-loop μ-loop
 slice-write-work c = omega (arith, c .before .loop .inv .0 .len)
 
--- src/lib.rt:325:9
 add-i : tie.Need-add-i Inv-loop μ-loop
 add-i c = omega arith
 
--- src/lib.rt:325:5
 loop-less : tie.Need-loop-less Inv-loop μ-loop
 loop-less c = omega arith
 
--- src/lib.rt:325:5
 loop-again : tie.Need-loop-again Inv-loop μ-loop
 loop-again c =
     let s = c .before .before in
     (wiped-on (s .args .start) (c .before .loop .i) (s .args .work .now) (c .before .loop .work) (c .before .loop .inv .0) (omega arith), omega arith)
 
--- src/lib.rt:321:1
 same-length : tie.Need-same-length Inv-loop μ-loop
 same-length c = c .before .loop .inv .0 .len
 
--- src/lib.rt:321:1
 returns : tie.Need-returns Inv-loop μ-loop
 returns c =
     let s = c .before .before in
