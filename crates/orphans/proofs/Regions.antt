@@ -13,7 +13,7 @@ use Rattle.base.specs.Places.{any, count}
 use Rattle.base.proofs.Counting.{case, clash, both, left, right, or-left, not-true, not-false, same-test, eqb-yes, yes-eqb, leb-yes, yes-leb, no-leb, any-yes, yes-any, count-le, count-same, count-insert}
 use Rattle.rules.specs.Regions.{opaque, Joined, roots, root, inside, first, label, Symmetric}
 use Rattle.rules.specs.Masks as masks
-use Rattle.rules.specs.Pass.{size, large}
+use Rattle.rules.specs.Pass.{size}
 use Rattle.rules.proofs.Roots.{opaque-below, join-left, join-right, join-root, join-inside, inside-join, first-root}
 use Rattle.rules.proofs.Labels.{label-clear, label-positive, label-le, label-joined, label-hit}
 use Rattle.grid.specs.Planes.{plane, groupAt, endOf, Labelled}

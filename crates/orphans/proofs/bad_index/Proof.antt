@@ -1,4 +1,5 @@
 -- `orphans::bad_index`. Assumes nothing.
+use mathlib.Core.Path.{_∙_}
 use mir.Facts.{toZ-ofZ}
 use Rattle.orphans.proofs.Storing.{below, not-below}
 use Rattle.orphans.proofs.Refusing.{in-front}
