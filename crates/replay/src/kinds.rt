@@ -1,24 +1,37 @@
 // A number of the stream as a byte, a word, a cell or a double.
+ghost use mathlib.Core.Path.{_≡_};
+ghost use Prim.Native.Nat.{_/_, _%_, _^_};
+ghost use lib.Ieee.{binary64, toBits};
+ghost use Rattle.replay.specs.Kinds.{byteOf, wordOf, cellOf, doubleOf};
 
 // 2 ^ 31, 2 ^ 32, 2 ^ 52 and 2 ^ 63
-const HALF: u64 = 2147483648;
+const HALF: u64 = 0x8000_0000;
 
-const WORDS: u64 = 4294967296;
+const WORDS: u64 = 0x1_0000_0000;
 
-const UNIT: u64 = 4503599627370496;
+const UNIT: u64 = 0x10_0000_0000_0000;
 
-const SIGN: u64 = 9223372036854775808;
+const SIGN: u64 = 0x8000_0000_0000_0000;
 
-pub fn byte(n: u64) -> u8 {
+// The bits that stand for every NaN.
+const NAN: u64 = 0x7ff8_0000_0000_0000;
+
+pub fn byte(n: u64) -> u8
+    ensures { λ r. ⌜ r ≡ byteOf n ⌝ }
+{
     (n % 256) as u8
 }
 
-pub fn word(n: u64) -> u32 {
+pub fn word(n: u64) -> u32
+    ensures { λ r. ⌜ r ≡ wordOf n ⌝ }
+{
     (n % WORDS) as u32
 }
 
 // The signed number that 32 bits are in two's complement.
-pub fn cell(n: u64) -> i32 {
+pub fn cell(n: u64) -> i32
+    ensures { λ r. ⌜ r ≡ cellOf n ⌝ }
+{
     let bits = n % WORDS;
     if bits < HALF {
         bits as i32
@@ -28,7 +41,10 @@ pub fn cell(n: u64) -> i32 {
 }
 
 // The double of bits whose exponent is the highest one: infinite, or NaN.
-fn special(bits: u64) -> f64 {
+fn special(bits: u64) -> f64
+    requires { ⌜ bits % 2 ^ 63 / 2 ^ 52 ≡ 2047 ⌝ }
+    ensures { λ r. ⌜ r ≡ doubleOf bits ⌝ }
+{
     if bits % UNIT != 0 {
         return 0.0 / 0.0;
     }
@@ -36,17 +52,21 @@ fn special(bits: u64) -> f64 {
 }
 
 // The double that has these bits.
-pub fn double(bits: u64) -> f64 {
+pub fn double(bits: u64) -> f64
+    ensures { λ r. ⌜ r ≡ doubleOf bits ⌝ }
+{
     if bits % SIGN / UNIT == 2047 {
         return special(bits);
     }
     f64::from_bits(bits)
 }
 
-// Whether two doubles are the same: NaN is the same as NaN, and the zeros differ.
-pub fn same_double(x: f64, y: f64) -> bool {
+// The bits of a double.
+pub fn bits_of(x: f64) -> u64
+    ensures { λ r. ⌜ r ≡ toBits binary64 x ⌝ }
+{
     if x != x {
-        return y != y;
+        return NAN;
     }
-    x == y && 1.0 / x == 1.0 / y
+    f64::to_bits(x)
 }

@@ -1,15 +1,19 @@
 // The numbers of a text in hex, and the lists among them.
-ghost use Prim.Native.Nat.{_≤_};
+ghost use mathlib.Core.Path.{_≡_};
+ghost use Prim.Native.Nat.{_≤_, min};
+ghost use lib.ListN.{length, getD};
+ghost use Rattle.replay.specs.Lists.{beyond, storedAt, workAt, afterAt, element, elementAfter};
 
 const TEXT: usize = 131072;
 
 // 2 ^ 60
-const TOP: u64 = 1152921504606846976;
+const TOP: u64 = 0x1000_0000_0000_0000;
 
 // Every element past those that are given has all its bytes 5a.
-const SPARE: u64 = 6510615555426900570;
+const SPARE: u64 = 0x5a5a_5a5a_5a5a_5a5a;
 
 pub fn least(a: usize, b: usize) -> usize
+    ensures { λ r. ⌜ r ≡ min a b ⌝ }
     ensures { λ r. ⌜ r ≤ b ⌝ }
 {
     if a < b { a } else { b }
@@ -77,20 +81,28 @@ fn parsed(text: &[u8], numbers: &mut [u64]) -> usize {
 }
 
 // Puts the numbers of a file into a list, and answers how many there are. A file that is missing has none.
-pub fn read(name: &[u8], numbers: &mut [u64]) -> usize {
+pub fn read(name: &[u8], numbers: &mut [u64]) -> usize
+    ensures { λ r. ⌜ r ≤ length (now (numbers .exit)) ⌝ }
+{
     let mut text = [0u8; TEXT];
     let file = os::open_read(name);
     let n = io::read_full(file, &mut text);
     libc::close(file);
-    parsed(&text[..n], numbers)
+    let count = parsed(&text[..n], numbers);
+    least(count, numbers.len())
 }
 
 // The number at a place, 0 past the end.
-pub fn number(numbers: &[u64], at: usize) -> u64 {
+pub fn number(numbers: &[u64], at: usize) -> u64
+    ensures { λ r. ⌜ r ≡ getD (now (numbers .entry)) at 0 ⌝ }
+{
     if at < numbers.len() { numbers[at] } else { 0 }
 }
 
-pub fn past(at: usize, count: usize) -> usize {
+// The place count past another.
+pub fn past(at: usize, count: usize) -> usize
+    ensures { λ r. ⌜ r ≡ beyond at count ⌝ }
+{
     std::num::wrapping_add_usize(at, count)
 }
 
@@ -103,7 +115,9 @@ pub struct Stored {
 
 impl Stored {
     // The list at a place.
-    pub fn at(numbers: &[u64], at: usize) -> Self {
+    pub fn at(numbers: &[u64], at: usize) -> Self
+        ensures { λ r. ⌜ r ≡ storedAt (now (numbers .entry)) at ⌝ }
+    {
         Self {
             len: number(numbers, at) as usize,
             given: number(numbers, past(at, 1)) as usize,
@@ -112,7 +126,9 @@ impl Stored {
     }
 
     // The work area whose length alone stands at a place.
-    pub fn work(numbers: &[u64], at: usize) -> Self {
+    pub fn work(numbers: &[u64], at: usize) -> Self
+        ensures { λ r. ⌜ r ≡ workAt (now (numbers .entry)) at ⌝ }
+    {
         Self {
             len: number(numbers, at) as usize,
             given: 0,
@@ -121,11 +137,16 @@ impl Stored {
     }
 
     // The place past the list.
-    pub fn end(self) -> usize {
+    pub fn end(self) -> usize
+        ensures { λ r. ⌜ r ≡ beyond (self .from) (self .given) ⌝ }
+    {
         past(self.from, self.given)
     }
 
-    pub fn element(self, numbers: &[u64], i: usize) -> u64 {
+    // The element i: one that is given, or 5a in every byte.
+    pub fn element(self, numbers: &[u64], i: usize) -> u64
+        ensures { λ r. ⌜ r ≡ element (now (numbers .entry)) self i ⌝ }
+    {
         if i < self.given {
             number(numbers, past(self.from, i))
         } else {
@@ -142,7 +163,10 @@ pub struct After {
 }
 
 impl After {
-    pub fn at(numbers: &[u64], at: usize, before: Stored) -> Self {
+    // What stands at a place of the list that it was before.
+    pub fn at(numbers: &[u64], at: usize, before: Stored) -> Self
+        ensures { λ r. ⌜ r ≡ afterAt (now (numbers .entry)) at before ⌝ }
+    {
         Self {
             before,
             given: number(numbers, at) as usize,
@@ -150,11 +174,17 @@ impl After {
         }
     }
 
-    pub fn end(self) -> usize {
+    // The place past it.
+    pub fn end(self) -> usize
+        ensures { λ r. ⌜ r ≡ beyond (self .from) (self .given) ⌝ }
+    {
         past(self.from, self.given)
     }
 
-    pub fn element(self, numbers: &[u64], i: usize) -> u64 {
+    // The element i: one that is given, or the one before.
+    pub fn element(self, numbers: &[u64], i: usize) -> u64
+        ensures { λ r. ⌜ r ≡ elementAfter (now (numbers .entry)) self i ⌝ }
+    {
         let before = self.before;
         if i < self.given {
             number(numbers, past(self.from, i))

@@ -1,5 +1,11 @@
 // Whether a call gave what is stored, list by list, and what is printed of that.
-ghost use Prim.Native.Nat.{_≤_, _<_};
+ghost use mathlib.Core.Path.{_≡_};
+ghost use mathlib.Core.Bool.{cond, _&&_};
+ghost use Prim.Native.Nat.{_+_, _≤_, min};
+ghost use lib.Dec.{eqb};
+ghost use lib.ListN.{length, getD};
+ghost use Rattle.replay.specs.Kinds.{sameByte, sameWord, sameCell, sameDouble};
+ghost use Rattle.replay.specs.Verdicts.{numberOf, answeredAt, further};
 use crate::lists::same_bytes;
 use crate::lists::same_cells;
 use crate::lists::same_doubles;
@@ -18,7 +24,9 @@ pub struct Verdict {
 }
 
 // An answer's number, 0 if nothing is refused.
-pub fn filling_number(answer: Filling) -> u8 {
+pub fn filling_number(answer: Filling) -> u8
+    ensures { λ r. ⌜ r ≡ numberOf answer ⌝ }
+{
     match answer {
         Filling::Done => 0,
         Filling::Refused(n) => n,
@@ -26,7 +34,9 @@ pub fn filling_number(answer: Filling) -> u8 {
 }
 
 // Whether a call's answer is the number at a place: 0, or that of a refusal.
-pub fn answered(numbers: &[u64], at: usize, answer: u8) -> Verdict {
+pub fn answered(numbers: &[u64], at: usize, answer: u8) -> Verdict
+    ensures { λ r. ⌜ r ≡ answeredAt (now (numbers .entry)) at answer ⌝ }
+{
     Verdict {
         at: past(at, 1),
         same: number(numbers, at) == (answer as u64),
@@ -35,44 +45,54 @@ pub fn answered(numbers: &[u64], at: usize, answer: u8) -> Verdict {
 
 impl Verdict {
     // The list that was stored as s, after the call.
-    pub fn bytes(self, numbers: &[u64], s: Stored, got: &[u8]) -> Verdict {
+    pub fn bytes(self, numbers: &[u64], s: Stored, got: &[u8]) -> Verdict
+        ensures { λ r. ⌜ r ≡ further (now (numbers .entry)) self s (length (now (got .entry))) (sameByte (now (got .entry))) ⌝ }
+    {
         let a = After::at(numbers, self.at, s);
         Verdict {
             at: a.end(),
-            same: self.same && same_bytes(numbers, a, got),
+            same: self.same & same_bytes(numbers, a, got),
         }
     }
 
-    pub fn words(self, numbers: &[u64], s: Stored, got: &[u32]) -> Verdict {
+    pub fn words(self, numbers: &[u64], s: Stored, got: &[u32]) -> Verdict
+        ensures { λ r. ⌜ r ≡ further (now (numbers .entry)) self s (length (now (got .entry))) (sameWord (now (got .entry))) ⌝ }
+    {
         let a = After::at(numbers, self.at, s);
         Verdict {
             at: a.end(),
-            same: self.same && same_words(numbers, a, got),
+            same: self.same & same_words(numbers, a, got),
         }
     }
 
-    pub fn cells(self, numbers: &[u64], s: Stored, got: &[i32]) -> Verdict {
+    pub fn cells(self, numbers: &[u64], s: Stored, got: &[i32]) -> Verdict
+        ensures { λ r. ⌜ r ≡ further (now (numbers .entry)) self s (length (now (got .entry))) (sameCell (now (got .entry))) ⌝ }
+    {
         let a = After::at(numbers, self.at, s);
         Verdict {
             at: a.end(),
-            same: self.same && same_cells(numbers, a, got),
+            same: self.same & same_cells(numbers, a, got),
         }
     }
 
-    pub fn doubles(self, numbers: &[u64], s: Stored, got: &[f64]) -> Verdict {
+    pub fn doubles(self, numbers: &[u64], s: Stored, got: &[f64]) -> Verdict
+        ensures { λ r. ⌜ r ≡ further (now (numbers .entry)) self s (length (now (got .entry))) (sameDouble (now (got .entry))) ⌝ }
+    {
         let a = After::at(numbers, self.at, s);
         Verdict {
             at: a.end(),
-            same: self.same && same_doubles(numbers, a, got),
+            same: self.same & same_doubles(numbers, a, got),
         }
     }
 }
 
-// The place past the case that begins at a place below count, at most count.
+// The place past the case at a place, at most count: a case begins with how many numbers it has.
 pub fn case_end(numbers: &[u64], at: usize, count: usize) -> usize
-    requires { ⌜ at < count ⌝ }
-    ensures { λ r. ⌜ (at < r) × (r ≤ count) ⌝ }
+    ensures { λ r. ⌜ r ≡ min count (at + 1 + getD (now (numbers .entry)) at 0) ⌝ }
 {
+    if count <= at {
+        return count;
+    }
     let next = at + 1;
     let length = number(numbers, at) as usize;
     if length < count - next {
@@ -82,17 +102,22 @@ pub fn case_end(numbers: &[u64], at: usize, count: usize) -> usize
     }
 }
 
-// Prints a case that differs, or whose numbers are not just those that its entry takes. The answer is 1 for such a case, 0 for any other.
-pub fn case_told(name: &[u8], case: u64, v: Verdict, end: usize) -> u64
-    ensures { λ r. ⌜ r ≤ 1 ⌝ }
-{
-    if v.same && v.at == end {
-        return 0;
-    }
+fn print_case(name: &[u8], case: u64) {
     io::write_all(STDOUT_FILENO, name);
     io::write_all(STDOUT_FILENO, b": case ");
     io::print_decimal(STDOUT_FILENO, case);
     io::write_all(STDOUT_FILENO, b" differs\n");
+}
+
+// Prints a case that differs, or whose numbers are not just those that its entry takes. The answer is 1 for such a case, 0 for any other.
+pub fn case_told(name: &[u8], case: u64, v: Verdict, end: usize) -> u64
+    ensures { λ r. ⌜ r ≡ cond (v .same && eqb (v .at) end) 0 1 ⌝ }
+    ensures { λ r. ⌜ r ≤ 1 ⌝ }
+{
+    if v.same & (v.at == end) {
+        return 0;
+    }
+    print_case(name, case);
     1
 }
 

@@ -1,24 +1,31 @@
--- `same_doubles` is safe and ends.
+-- `same_doubles` meets its contract. The loop's invariant: the first i elements are compared. Assumes nothing.
 use Prim.Native.Nat.{_-_}
-use lib.ListN.{length}
 use borrow.Author.Needs.{needs}
+use lib.Dec.{eqb}
+use lib.ListN.{length}
+use Rattle.replay.specs.Kinds.{sameDouble}
+use Rattle.replay.specs.Lists.{elementAfter, agrees}
+use Rattle.replay.proofs.Agreeing.{Alike, none-yet, one-more, all-done}
 use Rattle.replay.proofs.lists.same_doubles.Statement.{statement}
 use Rattle.replay.proofs.lists.same_doubles.Tie as tie
 
 abbrev Inv-loop : tie.InvT-loop
-Inv-loop numbers a got same₀ i₀ same i = Unit {0}
+Inv-loop numbers a got same₀ i₀ same i = Alike (length got) i (λ j. sameDouble got j (elementAfter numbers a j)) (eqb (length got) (a .before .len)) same
 
 abbrev μ-loop : tie.MeasureT-loop
 μ-loop numbers a got same₀ i₀ same i = length got - i
 
 loop-holds : tie.Need-loop-holds Inv-loop μ-loop
-loop-holds c = search needs
+loop-holds c = none-yet _ _ _
 
-mul-same-double : tie.Need-mul-same-double Inv-loop μ-loop
-mul-same-double c = search needs
+mul-bits-of : tie.Need-mul-bits-of Inv-loop μ-loop
+mul-bits-of c = search needs
 
-shared-slice-read-same-double : tie.Need-shared-slice-read-same-double Inv-loop μ-loop
-shared-slice-read-same-double c = search needs
+shared-slice-read-bits-of : tie.Need-shared-slice-read-bits-of Inv-loop μ-loop
+shared-slice-read-bits-of c = search needs
+
+bits-of-requires : tie.Need-bits-of-requires Inv-loop μ-loop
+bits-of-requires c κs = search needs
 
 element-requires : tie.Need-element-requires Inv-loop μ-loop
 element-requires c κs = search needs
@@ -26,8 +33,8 @@ element-requires c κs = search needs
 double-requires : tie.Need-double-requires Inv-loop μ-loop
 double-requires c κs = search needs
 
-same-double-requires : tie.Need-same-double-requires Inv-loop μ-loop
-same-double-requires c κs = search needs
+bits-of-requires-2 : tie.Need-bits-of-requires-2 Inv-loop μ-loop
+bits-of-requires-2 c κs = search needs
 
 add-i : tie.Need-add-i Inv-loop μ-loop
 add-i c = search needs
@@ -36,10 +43,11 @@ loop-less : tie.Need-loop-less Inv-loop μ-loop
 loop-less c = search needs
 
 loop-again : tie.Need-loop-again Inv-loop μ-loop
-loop-again c = search needs
+loop-again c = one-more (c .before .before .before .before .before .before .loop .inv) _ (c .before .before .before .before .before .loop-test .taken) cc
 
 returns : tie.Need-returns Inv-loop μ-loop
-returns c = search needs
+unfolding agrees
+returns c = all-done (c .before .loop .inv) (c .loop-test .left)
 
 pub same-doubles-spec : {M : Type 1} → statement M
 same-doubles-spec =
@@ -48,11 +56,12 @@ same-doubles-spec =
     Inv-loop
     μ-loop
     loop-holds
-    mul-same-double
-    shared-slice-read-same-double
+    mul-bits-of
+    shared-slice-read-bits-of
+    bits-of-requires
     element-requires
     double-requires
-    same-double-requires
+    bits-of-requires-2
     add-i
     loop-less
     loop-again

@@ -1,18 +1,22 @@
--- `same_words` is safe and ends.
+-- `same_words` meets its contract. The loop's invariant: the first i elements are compared. Assumes nothing.
 use Prim.Native.Nat.{_-_}
-use lib.ListN.{length}
 use borrow.Author.Needs.{needs}
+use lib.Dec.{eqb}
+use lib.ListN.{length}
+use Rattle.replay.specs.Kinds.{sameWord}
+use Rattle.replay.specs.Lists.{elementAfter, agrees}
+use Rattle.replay.proofs.Agreeing.{Alike, none-yet, one-more, all-done}
 use Rattle.replay.proofs.lists.same_words.Statement.{statement}
 use Rattle.replay.proofs.lists.same_words.Tie as tie
 
 abbrev Inv-loop : tie.InvT-loop
-Inv-loop numbers a got same₀ i₀ same i = Unit {0}
+Inv-loop numbers a got same₀ i₀ same i = Alike (length got) i (λ j. sameWord got j (elementAfter numbers a j)) (eqb (length got) (a .before .len)) same
 
 abbrev μ-loop : tie.MeasureT-loop
 μ-loop numbers a got same₀ i₀ same i = length got - i
 
 loop-holds : tie.Need-loop-holds Inv-loop μ-loop
-loop-holds c = search needs
+loop-holds c = none-yet _ _ _
 
 mul-same : tie.Need-mul-same Inv-loop μ-loop
 mul-same c = search needs
@@ -33,10 +37,11 @@ loop-less : tie.Need-loop-less Inv-loop μ-loop
 loop-less c = search needs
 
 loop-again : tie.Need-loop-again Inv-loop μ-loop
-loop-again c = search needs
+loop-again c = one-more (c .before .before .before .before .loop .inv) _ (c .before .before .before .loop-test .taken) cc
 
 returns : tie.Need-returns Inv-loop μ-loop
-returns c = search needs
+unfolding agrees
+returns c = all-done (c .before .loop .inv) (c .loop-test .left)
 
 pub same-words-spec : {M : Type 1} → statement M
 same-words-spec =

@@ -1,0 +1,4 @@
+pub mod Bits
+pub mod Filling
+pub mod Agreeing
+pub mod Verdicts

@@ -1,0 +1,20 @@
+-- `cells` meets its contract. Assumes nothing.
+use Rattle.replay.proofs.Verdicts.{one-list}
+use borrow.Author.Needs.{needs}
+use Rattle.replay.proofs.verdict.Verdict.cells.Statement.{statement}
+use Rattle.replay.proofs.verdict.Verdict.cells.Tie as tie
+
+at-requires : tie.Need-at-requires
+at-requires c κs = search needs
+
+end-requires : tie.Need-end-requires
+end-requires c κs = search needs
+
+same-cells-requires : tie.Need-same-cells-requires
+same-cells-requires c κs = search needs
+
+returns : tie.Need-returns
+returns c = one-list _ _ _ _ _ (c .before .before .before .at .ensures) (c .before .before .end .ensures) (c .before .same-cells .ensures)
+
+pub cells-spec : {M : Type 1} → statement M
+cells-spec = tie.close (tie.spec at-requires end-requires same-cells-requires returns)

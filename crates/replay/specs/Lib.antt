@@ -1,0 +1,3 @@
+pub mod Kinds
+pub mod Lists
+pub mod Verdicts
