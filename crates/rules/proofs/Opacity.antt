@@ -36,7 +36,7 @@ pub record Alike (s t : Sheet) : Type 0 where
 itself : (s : Sheet) → length (s .cells) ≡ area s → Alike s s
 itself s len = record { height = refl; width = refl; full = len; opaq = λ p. refl }
 
-trans : {s t u : Sheet} → Alike s t → Alike t u → Alike s u
+pub trans : {s t u : Sheet} → Alike s t → Alike t u → Alike s u
 trans a b = record { height = b .height ∙ a .height; width = b .width ∙ a .width; full = b .full; opaq = λ p. b .opaq p ∙ a .opaq p }
 
 -- a sheet made of a table of cells that are opaque where the old ones are
@@ -65,7 +65,7 @@ tidy-alike k palette limits s len =
       opaq = clean-opaque rule (eight-symmetric (s .width)) k (fresh rule (s .cells)) len;
     }
 
-tidied-alike : (on : Bool) (k : ℕ) (palette : Palette) (limits : Limits) (s : Sheet) → length (s .cells) ≡ area s → Alike s (tidyIf on k palette limits s .sheet)
+pub tidied-alike : (on : Bool) (k : ℕ) (palette : Palette) (limits : Limits) (s : Sheet) → length (s .cells) ≡ area s → Alike s (tidyIf on k palette limits s .sheet)
 unfolding tidyIf
 tidied-alike true k palette limits s len = tidy-alike k palette limits s len
 tidied-alike false k palette limits s len = itself s len
@@ -135,11 +135,11 @@ module _ {s t : Sheet} (k : Alike s t) where
   unfolding touches onEdge area
   touches-same = ap touches same-shape ∙ any-same (s .height * s .width) _ _ (λ p h. ap (λ (b : Bool). b && onEdge s p) (k .opaq p))
 
-  pads-same : (allowed : Bool) (how : Outline) → pads allowed how t ≡ pads allowed how s
+  pub pads-same : (allowed : Bool) (how : Outline) → pads allowed how t ≡ pads allowed how s
   unfolding pads
   pads-same allowed how = ap (λ (b : Bool). allowed && asked how && b) touches-same
 
-  ring-same : (p : ℕ) → ring t p ≡ ring s p
+  pub ring-same : (p : ℕ) → ring t p ≡ ring s p
   unfolding ring area
   ring-same p =
       ap (λ (x : Sheet). ring x p) same-shape
@@ -154,7 +154,7 @@ module _ {s t : Sheet} (k : Alike s t) where
       either-way (leb 1 y && leb y (s .height) && leb 1 x && leb x (s .width)) (at (t .cells) ((y - 1) * s .width + (x - 1))) (at (s .cells) ((y - 1) * s .width + (x - 1)))
       (k .opaq ((y - 1) * s .width + (x - 1)))
 
-  canvas-alike : length (s .cells) ≡ area s → (b : Bool) → Alike (canvas b s) (canvas b t)
+  pub canvas-alike : length (s .cells) ≡ area s → (b : Bool) → Alike (canvas b s) (canvas b t)
   unfolding canvas padded area opaque at
   canvas-alike len false = k
   canvas-alike len true =
@@ -166,7 +166,7 @@ module _ {s t : Sheet} (k : Alike s t) where
         opaq = λ p. over-table ((s .height + 2) * (s .width + 2)) (paddedAt shaped) (paddedAt s) padded-opaque p;
       })
 
-canvas-full : (b : Bool) (s : Sheet) → length (s .cells) ≡ area s → length (canvas b s .cells) ≡ area (canvas b s)
+pub canvas-full : (b : Bool) (s : Sheet) → length (s .cells) ≡ area s → length (canvas b s .cells) ≡ area (canvas b s)
 unfolding canvas padded area
 canvas-full false s len = len
 canvas-full true s len = table-length ((s .height + 2) * (s .width + 2)) (paddedAt s)
@@ -174,11 +174,11 @@ canvas-full true s len = table-length ((s .height + 2) * (s .width + 2)) (padded
 -- ---- the outline, and all of it
 
 -- after an outline call or none, on the canvas `on`: a cell is opaque if it was, or if an outline is asked for and it is in the ring
-record Shown (outlined : Bool) (on t : Sheet) : Type 0 where
-  height : t .height ≡ on .height
-  width : t .width ≡ on .width
-  full : length (t .cells) ≡ area t
-  opaq : (p : ℕ) → p < area on → opaque (t .cells) p ≡ (opaque (on .cells) p || (outlined && ring on p))
+pub record Shown (outlined : Bool) (on t : Sheet) : Type 0 where
+  pub height : t .height ≡ on .height
+  pub width : t .width ≡ on .width
+  pub full : length (t .cells) ≡ area t
+  pub opaq : (p : ℕ) → p < area on → opaque (t .cells) p ≡ (opaque (on .cells) p || (outlined && ring on p))
 
 then : {b : Bool} {on t u : Sheet} → Shown b on t → Alike t u → Shown b on u
 then a k = record { height = k .height ∙ a .height; width = k .width ∙ a .width; full = k .full; opaq = λ p h. k .opaq p ∙ a .opaq p h }
@@ -222,7 +222,7 @@ not-asked true how s z = rw z
 not-asked false how s z = refl
 
 -- an outline where one is asked for
-line-shown : (fixed : Bool) (config : PostConfig) (margin : ℤ) (s : Sheet) (palette : Palette) → length (s .cells) ≡ area s →
+pub line-shown : (fixed : Bool) (config : PostConfig) (margin : ℤ) (s : Sheet) (palette : Palette) → length (s .cells) ≡ area s →
     Shown (asked (config .outline)) (canvas (pads (padAllowed config margin) (config .outline) s) s) (outlineIf fixed config margin s palette .sheet)
 unfolding outlineIf canvas
 line-shown fixed config margin s palette len =
@@ -244,7 +244,7 @@ shown-alike {b} {on} {on′} {t} k a =
     }
 
 -- corners, if they are switched on
-cut-alike : (on : Bool) (s : Sheet) → length (s .cells) ≡ area s → Alike s (cond on (trim s) s)
+pub cut-alike : (on : Bool) (s : Sheet) → length (s .cells) ≡ area s → Alike s (cond on (trim s) s)
 cut-alike true s len = trim-alike s len
 cut-alike false s len = itself s len
 

@@ -93,7 +93,10 @@ fn orphans_told(
     if facts.len() < 1 {
         return no_facts(h, w);
     }
-    cleaned(orphans::remove_orphans(cells, h, w, palette, k, min_region, passes, max_delta, work), facts)
+    cleaned(
+        orphans::remove_orphans(cells, h, w, palette, k, min_region, passes, max_delta, work),
+        facts,
+    )
 }
 
 fn outline_told(
@@ -111,7 +114,10 @@ fn outline_told(
     if facts.len() < 5 {
         return no_facts(h, w);
     }
-    outlined(outline::add_outline(cells, h, w, palette, k, outline, allow_pad, fixed, work), facts)
+    outlined(
+        outline::add_outline(cells, h, w, palette, k, outline, allow_pad, fixed, work),
+        facts,
+    )
 }
 
 fn remove_orphans(numbers: &[u64], at: usize) -> Verdict {
@@ -134,8 +140,22 @@ fn remove_orphans(numbers: &[u64], at: usize) -> Verdict {
     let palette = lend_doubles(numbers, p, &mut second);
     let work = lend_words(numbers, a, &mut third);
     let facts = lend_words(numbers, f, &mut fourth);
-    let answer = orphans_told(cells, h, w, palette, k, min_region, passes, max_delta, work, facts);
-    answered(numbers, f.end(), answer).cells(numbers, c, cells).doubles(numbers, p, palette).words(numbers, f, facts)
+    let answer = orphans_told(
+        cells,
+        h,
+        w,
+        palette,
+        k,
+        min_region,
+        passes,
+        max_delta,
+        work,
+        facts,
+    );
+    answered(numbers, f.end(), answer)
+        .cells(numbers, c, cells)
+        .doubles(numbers, p, palette)
+        .words(numbers, f, facts)
 }
 
 fn fix_jaggies(numbers: &[u64], at: usize) -> Verdict {
@@ -171,8 +191,22 @@ fn add_outline(numbers: &[u64], at: usize) -> Verdict {
     let palette = lend_doubles(numbers, p, &mut second);
     let work = lend_words(numbers, a, &mut third);
     let facts = lend_words(numbers, f, &mut fourth);
-    let answer = outline_told(cells, h, w, palette, k, outline, allow_pad, fixed, work, facts);
-    answered(numbers, f.end(), answer).cells(numbers, c, cells).doubles(numbers, p, palette).words(numbers, f, facts)
+    let answer = outline_told(
+        cells,
+        h,
+        w,
+        palette,
+        k,
+        outline,
+        allow_pad,
+        fixed,
+        work,
+        facts,
+    );
+    answered(numbers, f.end(), answer)
+        .cells(numbers, c, cells)
+        .doubles(numbers, p, palette)
+        .words(numbers, f, facts)
 }
 
 // A case of the entry with this number.

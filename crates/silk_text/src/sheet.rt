@@ -1,0 +1,207 @@
+// The whole text: the head, then colours and rows, which fill lent lists.
+ghost use mathlib.Core.Path.{_≡_};
+ghost use Prim.Native.Nat.{_+_, _*_, _≤_, _<_};
+ghost use lib.ListN.{length, take, drop};
+ghost use Rattle.silk_text.specs.Reader.{series, cellAt};
+ghost use Rattle.silk_text.specs.Format.{colourLine, doubles, rowLine, rows, lists, file, most};
+ghost use Rattle.silk_text.specs.Answers.{coloured, celled, laid, onto, filledTo, steppedTo, lent, filed, parsed, readInto};
+use super::cursor::Cell;
+use super::cursor::Colour;
+use super::cursor::Cursor;
+use super::cursor::Step;
+use super::head::Head;
+use super::head::HeadRead;
+use color::Rgb8;
+use color::cielab::rgb8_to_lab_one;
+
+// What reading into a lent list comes to.
+pub enum Reading {
+    To(Cursor),
+    Refused(u8),
+}
+
+// What a text comes to: a head, with the cells and the palette in the lent lists.
+pub enum Parsed {
+    Sheet(Head),
+    Refused(u8),
+}
+
+impl Cursor {
+    fn colour_line(self, text: &[u8]) -> Colour
+        ensures { λ r. ⌜ coloured (now (text .entry)) r ≡ colourLine (drop (self .at) (now (text .entry))) ⌝ }
+    {
+        let Step::To(next) = self.bytes(text, b"colour=") else {
+            return Colour::Refused(10);
+        };
+        next.hex_line(text)
+    }
+
+    // The cell of column x, after a comma unless it is the first.
+    fn cell_at(self, text: &[u8], x: usize) -> Cell
+        ensures { λ r. ⌜ celled (now (text .entry)) r ≡ cellAt x (drop (self .at) (now (text .entry))) ⌝ }
+    {
+        if x == 0 {
+            return self.cell(text);
+        }
+        let Step::To(next) = self.bytes(text, b",") else {
+            return Cell::Malformed;
+        };
+        next.cell(text)
+    }
+}
+
+// Puts a colour at entry i of a palette.
+fn put_colour(palette: &mut [f64], i: usize, c: Rgb8)
+    requires { ⌜ 3 * i + 3 ≤ length (now palette) ⌝ }
+    ensures { λ _. ⌜ now (palette .exit) ≡ laid (3 * i) (doubles c) (now (palette .entry)) ⌝ }
+{
+    let lab = rgb8_to_lab_one(c);
+    let at = 3 * i;
+    palette[at] = lab.l;
+    palette[at + 1] = lab.a;
+    palette[at + 2] = lab.b;
+}
+
+// Colour lines, into the front of a palette.
+fn read_colours(text: &[u8], from: Cursor, colours: usize, palette: &mut [f64]) -> Reading
+    requires { ⌜ 3 * colours ≤ length (now palette) ⌝ }
+    ensures { λ r. ⌜ filledTo (now (text .entry)) (now (palette .exit)) r ≡ onto 0 (now (palette .entry)) (Rattle.silk_text.specs.Format.colours colours) (drop (from .at) (now (text .entry))) ⌝ }
+{
+    let mut to = from;
+    let mut i = 0;
+    while i < colours {
+        match to.colour_line(text) {
+            Colour::Value(c, next) => {
+                put_colour(palette, i, c);
+                to = next;
+            }
+            Colour::Refused(n) => return Reading::Refused(n),
+        }
+        i += 1;
+    }
+    Reading::To(to)
+}
+
+// The cells of a row, from a place of the sheet on.
+fn read_cells(text: &[u8], from: Cursor, w: usize, at: usize, cells: &mut [i32]) -> Step
+    requires { ⌜ at + w ≤ length (now cells) ⌝ }
+    ensures { λ r. ⌜ steppedTo (now (text .entry)) (now (cells .exit)) r ≡ onto at (now (cells .entry)) (series 0 w cellAt) (drop (from .at) (now (text .entry))) ⌝ }
+{
+    let mut to = from;
+    let mut x = 0;
+    while x < w {
+        let Cell::Value(c, next) = to.cell_at(text, x) else {
+            return Step::Malformed;
+        };
+        let place = at + x;
+        cells[place] = c;
+        to = next;
+        x += 1;
+    }
+    Step::To(to)
+}
+
+// A row, from a place of the sheet on.
+fn read_row(text: &[u8], from: Cursor, w: usize, at: usize, cells: &mut [i32]) -> Step
+    requires { ⌜ at + w ≤ length (now cells) ⌝ }
+    ensures { λ r. ⌜ steppedTo (now (text .entry)) (now (cells .exit)) r ≡ onto at (now (cells .entry)) (rowLine w) (drop (from .at) (now (text .entry))) ⌝ }
+{
+    let Step::To(first) = from.bytes(text, b"row=") else {
+        return Step::Malformed;
+    };
+    let Step::To(last) = read_cells(text, first, w, at, cells) else {
+        return Step::Malformed;
+    };
+    let Step::To(next) = last.bytes(text, b"\n") else {
+        return Step::Malformed;
+    };
+    Step::To(next)
+}
+
+// All rows, into the front of the cells.
+fn read_rows(text: &[u8], from: Cursor, h: usize, w: usize, cells: &mut [i32]) -> Step
+    requires { ⌜ h * w ≤ length (now cells) ⌝ }
+    ensures { λ r. ⌜ steppedTo (now (text .entry)) (now (cells .exit)) r ≡ onto 0 (now (cells .entry)) (rows h w) (drop (from .at) (now (text .entry))) ⌝ }
+{
+    let mut to = from;
+    let mut y = 0;
+    while y < h {
+        let at = y * w;
+        let Step::To(next) = read_row(text, to, w, at, cells) else {
+            return Step::Malformed;
+        };
+        to = next;
+        y += 1;
+    }
+    Step::To(to)
+}
+
+// The lines after the head's.
+fn read_lists(
+    text: &[u8],
+    h: Head,
+    from: Cursor,
+    palette: &mut [f64],
+    cells: &mut [i32],
+) -> HeadRead
+    requires { ⌜ (3 * (h .colours) ≤ length (now palette)) × ((h .height) * (h .width) ≤ length (now cells)) ⌝ }
+    ensures { λ r. ⌜ filed (now (text .entry)) (now (palette .exit)) (now (cells .exit)) r ≡ lent (now (palette .entry)) (now (cells .entry)) (lists h (drop (from .at) (now (text .entry)))) ⌝ }
+{
+    match read_colours(text, from, h.colours, palette) {
+        Reading::To(to) => {
+            let Step::To(end) = read_rows(text, to, h.height, h.width, cells) else {
+                return HeadRead::Refused(10);
+            };
+            HeadRead::Value(h, end)
+        }
+        Reading::Refused(n) => HeadRead::Refused(n),
+    }
+}
+
+fn read_file(text: &[u8], palette: &mut [f64], cells: &mut [i32]) -> HeadRead
+    requires { ⌜ (768 ≤ length (now palette)) × (1600 ≤ length (now cells)) ⌝ }
+    ensures { λ r. ⌜ filed (now (text .entry)) (now (palette .exit)) (now (cells .exit)) r ≡ lent (now (palette .entry)) (now (cells .entry)) (file (now (text .entry))) ⌝ }
+{
+    let start = Cursor { at: 0 };
+    match start.head(text) {
+        HeadRead::Value(h, next) => read_lists(text, h, next, palette, cells),
+        HeadRead::Refused(n) => HeadRead::Refused(n),
+    }
+}
+
+// The first 65,536 bytes of a text.
+fn limited(text: &[u8]) -> &[u8]
+    ensures { λ r. ⌜ now r ≡ take most (now (text .entry)) ⌝ }
+{
+    if text.len() > 65536 {
+        &text[..65536]
+    } else {
+        text
+    }
+}
+
+// Reads a text: its head is the answer, its colours, as doubles, go to the front of the palette, its cells to the front of the cells.
+// Lent lists that do not hold 256 colours and 40 by 40 cells are refused by 2. What they hold after a refusal is free.
+pub fn read(text: &[u8], palette: &mut [f64], cells: &mut [i32]) -> Parsed
+    ensures { λ r. ⌜ parsed (now (palette .exit)) (now (cells .exit)) r ≡ readInto (now (text .entry)) (now (palette .entry)) (now (cells .entry)) ⌝ }
+{
+    if palette.len() < 768 {
+        return Parsed::Refused(2);
+    }
+    if cells.len() < 1600 {
+        return Parsed::Refused(2);
+    }
+    let part = limited(text);
+    match read_file(part, palette, cells) {
+        HeadRead::Value(h, end) => {
+            if end.at < part.len() {
+                return Parsed::Refused(10);
+            }
+            if part.len() < text.len() {
+                return Parsed::Refused(10);
+            }
+            Parsed::Sheet(h)
+        }
+        HeadRead::Refused(n) => Parsed::Refused(n),
+    }
+}
