@@ -15,6 +15,7 @@ use lib.Seq.{ext-getD}
 use Rattle.base.specs.Places.{table, any}
 use Rattle.base.proofs.Counting.{clash, table-at, table-length, yes-any}
 use Rattle.rules.specs.Regions.{at, opaque, index, Symmetric}
+use Rattle.rules.specs.Masks as masks
 use Rattle.grid.specs.Steps.{hood}
 use Rattle.grid.specs.Planes.{plane, cellOf, cellsOf, groupAt, endOf, Labelled}
 use Rattle.grid.proofs.Places.{area, hood-symmetric}

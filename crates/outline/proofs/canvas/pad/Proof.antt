@@ -4,6 +4,7 @@ use mathlib.Core.Path.{_∙_}
 use native.Mathlib.Omega.{arith}
 use mir.Syntax.{w32}
 use mir.Facts.{toZ-ofZ}
+use Rattle.grid.proofs.Places.{area as area-fits}
 use Rattle.outline.proofs.Padding.{Pads, pads-start, pads-step, pads-end, held-within}
 use Rattle.outline.proofs.canvas.pad.Statement.{statement}
 use Rattle.outline.proofs.canvas.pad.Tie as tie

@@ -6,6 +6,7 @@ use native.Mathlib.Omega.{arith}
 use Rattle.base.specs.Places.{any}
 use Rattle.rules.specs.Sheet.{sheetOf, area}
 use Rattle.rules.specs.Outline.{ring, hasRing}
+use Rattle.grid.proofs.Places.{area as area-fits}
 use Rattle.checks.proofs.Scans.{none-yet, none-more}
 use Rattle.outline.proofs.Rings.{Walk, walk-start, walk-step, ring-found}
 use Rattle.outline.proofs.ring.has_ring.Statement.{statement}

@@ -9,6 +9,7 @@ use Rattle.base.specs.Outputs.{filled}
 use Rattle.base.proofs.Fills.{filled-none, filled-more}
 use Rattle.rules.specs.Sheet.{sheetOf}
 use Rattle.rules.specs.Outline.{ring}
+use Rattle.grid.proofs.Places.{area as area-fits}
 use Rattle.outline.proofs.Rings.{Walk, walk-start, walk-step}
 use Rattle.outline.proofs.ring.mark_ring.Statement.{statement}
 use Rattle.outline.proofs.ring.mark_ring.Tie as tie

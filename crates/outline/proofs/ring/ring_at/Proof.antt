@@ -6,6 +6,7 @@ use mathlib.Core.Bool.{false}
 use native.Mathlib.Omega.{arith}
 use borrow.Author.Tests.{le-ltb}
 use Rattle.rules.specs.Regions.{opaque}
+use Rattle.grid.proofs.Places.{area as area-fits}
 use Rattle.outline.proofs.Rings.{Spotted, here-in, up-in, down-in, right-in, ring-opaque, ring-above, ring-below, ring-left, ring-right}
 use Rattle.outline.proofs.ring.ring_at.Statement.{statement}
 use Rattle.outline.proofs.ring.ring_at.Tie as tie

@@ -4,6 +4,7 @@ use mathlib.Core.Path.{refl}
 use native.Mathlib.Omega.{arith}
 use borrow.Author.Needs.{needs}
 use Rattle.rules.specs.Sheet.{needed}
+use Rattle.grid.proofs.Places.{area as area-fits}
 use Rattle.outline.proofs.rows.needed.Statement.{statement}
 use Rattle.outline.proofs.rows.needed.Tie as tie
 

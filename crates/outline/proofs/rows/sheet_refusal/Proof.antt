@@ -7,6 +7,7 @@ use borrow.Author.Needs.{needs}
 use Rattle.rules.specs.Sheet.{sheetOf, needed}
 use Rattle.rules.specs.Outline.{asked, pads}
 use Rattle.rules.specs.Rows.{tooLarge}
+use Rattle.grid.proofs.Places.{area as area-fits}
 use Rattle.checks.proofs.Rows.{not-large}
 use Rattle.outline.proofs.Refusing.{needed-least, row-1, row-2, row-3, past-3}
 use Rattle.outline.proofs.rows.sheet_refusal.Statement.{statement}
