@@ -209,12 +209,23 @@ fn add_outline(numbers: &[u64], at: usize) -> Verdict {
         .words(numbers, f, facts)
 }
 
+fn apply_saturation(numbers: &[u64], at: usize) -> Verdict {
+    let mut first = [0.0; LIST];
+    let p = Stored::at(numbers, at);
+    let k = number(numbers, p.end()) as usize;
+    let beta = double(number(numbers, past(p.end(), 1)));
+    let palette = lend_doubles(numbers, p, &mut first);
+    let answer = filling_number(postprocess::apply_saturation(palette, k, beta));
+    answered(numbers, past(p.end(), 2), answer).doubles(numbers, p, palette)
+}
+
 // A case of the entry with this number.
 fn case(entry: u64, numbers: &[u64], at: usize) -> Verdict {
     match entry {
         0 => remove_orphans(numbers, at),
         1 => fix_jaggies(numbers, at),
-        _ => add_outline(numbers, at),
+        2 => add_outline(numbers, at),
+        _ => apply_saturation(numbers, at),
     }
 }
 
@@ -239,4 +250,5 @@ fn main() {
     replayed(0, b"remove_orphans.txt");
     replayed(1, b"fix_jaggies.txt");
     replayed(2, b"add_outline.txt");
+    replayed(3, b"apply_saturation.txt");
 }
