@@ -1,3 +1,4 @@
 pub mod Places
 pub mod Outputs
 pub mod Refusals
+pub mod Doubles

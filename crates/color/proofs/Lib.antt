@@ -3,11 +3,5 @@ pub mod Digits
 pub mod Scans
 pub mod Fillings
 pub mod Answers
-pub mod Entries
-pub mod Tests
-pub mod Tables
-pub mod Patterns
-pub mod Thresholds
 pub mod Colours
 pub mod Range
-pub mod Curve

@@ -16,9 +16,9 @@ use lib.Ieee.Scale.{grid, overflow, finite, round-val, round-under}
 use Rattle.base.proofs.Counting.{left, right, either, to-T, eqb-yes}
 use Rattle.roots.specs.Root.{notNegative, Double, NearestRoot}
 use Rattle.roots.proofs.Exists.{sqrt-nearest}
-use Rattle.color.proofs.Patterns.{finite-above}
+use Rattle.channel.proofs.Patterns.{finite-above}
 use Rattle.color.specs.declared.Lab.{Lab}
-use Rattle.color.specs.Doubles.{_⊕_, _⊖_, _⊗_, decimal}
+use Rattle.base.specs.Doubles.{_⊕_, _⊖_, _⊗_, decimal}
 use Rattle.color.specs.Lab.{within, dist2, distance}
 
 -- x is finite, with the sign s, and its size is at most n

@@ -8,8 +8,8 @@ use lib.Ieee.{Float, nan, neg, lt, le}
 use Rattle.roots.specs.Computed.{sqrtOf, cbrtOf}
 use Rattle.color.specs.declared.Lab.{Lab}
 use Rattle.color.specs.declared.Rgb8.{Rgb8}
-use Rattle.color.specs.Doubles.{_⊕_, _⊖_, _⊗_, _⊘_, decimal}
-use Rattle.color.specs.Channel.{decodeOf, byteOf}
+use Rattle.base.specs.Doubles.{_⊕_, _⊖_, _⊗_, _⊘_, decimal}
+use Rattle.channel.specs.Channel.{decodeOf, byteOf}
 
 -- the colour i of a list with three doubles for each colour
 unfoldable pub entry : List Float → ℕ → Lab

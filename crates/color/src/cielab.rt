@@ -5,8 +5,8 @@ ghost use lib.ListN.{length};
 ghost use Rattle.color.specs.Lab.{entry, within, dist2, distance, dot, matVec, labF, labFInv, labOfXyz, xyzOfLab, rgb8ToLab, labToRgb8};
 use crate::Lab;
 use crate::Rgb8;
-use crate::channel::byte;
-use crate::channel::decoded;
+use channel::byte;
+use channel::decoded;
 
 // Linear sRGB to XYZ.
 const XYZ_FROM_RGB: [[f64; 3]; 3] = [

@@ -1,5 +1,4 @@
 // Colours: CIELAB as three doubles, sRGB as three bytes, the ways between them, the distance of two, and colours written in hex.
-pub mod channel;
 pub mod cielab;
 pub mod hex;
 pub mod lists;

@@ -14,7 +14,7 @@ use Rattle.base.specs.Places.{any}
 use Rattle.base.specs.Outputs.{filled}
 use Rattle.base.proofs.Counting.{any-same, yes-any}
 use Rattle.base.proofs.Fills.{filled-at, filled-past, filled-none, filled-more}
-use Rattle.color.specs.Doubles.{_⊗_}
+use Rattle.base.specs.Doubles.{_⊗_}
 use Rattle.color.specs.Lab.{within}
 use Rattle.rules.specs.Palette.{Palette, paletteOf, outOfRange, saturate}
 use Rattle.rules.specs.Entries.{saturationRefusal, saturationAnswer, saturationPalette}

@@ -4,7 +4,7 @@ ghost use mathlib.Core.Bool.{cond};
 ghost use Prim.Native.Nat.{_*_, _%_, _≤_};
 ghost use lib.Dec.{eqb};
 ghost use lib.ListN.{length};
-ghost use Rattle.color.specs.Doubles.{_⊗_};
+ghost use Rattle.base.specs.Doubles.{_⊗_};
 ghost use Rattle.rules.specs.Palette.{paletteOf, saturate, outOfRange};
 
 // What the double i of a palette becomes: L stays, a and b are multiplied by beta.

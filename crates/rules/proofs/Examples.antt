@@ -7,7 +7,7 @@ use Rattle.base.specs.Places
 use Rattle.base.specs.Refusals
 use Rattle.roots.specs.Computed
 use Rattle.roots.specs.Units
-use Rattle.color.specs.Doubles.{decimal}
+use Rattle.base.specs.Doubles.{decimal}
 use Rattle.color.specs.Lab
 use Rattle.rules.specs.Sheet
 use Rattle.rules.specs.Palette

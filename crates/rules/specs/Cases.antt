@@ -7,7 +7,7 @@ use mathlib.Core.Option.{Option, none, some}
 use lib.IntN.{ℤ, pos, negsuc}
 use lib.ListN.{replicate}
 use lib.Ieee.{Float}
-use Rattle.color.specs.Doubles.{decimal}
+use Rattle.base.specs.Doubles.{decimal}
 use Rattle.rules.specs.declared.Outline.{Outline}
 use Rattle.rules.specs.declared.Outline.the-variants.{Auto}
 use Rattle.rules.specs.declared.LineIndex.{LineIndex}

@@ -8,7 +8,7 @@ use lib.Ieee.{Float}
 use Rattle.base.specs.Places.{table, any}
 use Rattle.color.specs.declared.Lab.{Lab}
 use Rattle.color.specs.declared.Rgb8.{Rgb8}
-use Rattle.color.specs.Doubles.{_⊖_, _⊗_, decimal}
+use Rattle.base.specs.Doubles.{_⊖_, _⊗_, decimal}
 use Rattle.color.specs.Lab.{distance, rgb8ToLab, labToRgb8}
 use Rattle.rules.specs.declared.Outline.{Outline}
 use Rattle.rules.specs.declared.Outline.the-variants.{None, Auto, Rgb}

@@ -9,7 +9,7 @@ use lib.Ieee.{Float, nan, lt, le}
 use Rattle.base.specs.Places.{any}
 use Rattle.base.specs.Outputs.{filled}
 use Rattle.color.specs.declared.Lab.{Lab}
-use Rattle.color.specs.Doubles.{_⊗_, decimal}
+use Rattle.base.specs.Doubles.{_⊗_, decimal}
 use Rattle.color.specs.Lab.{entry, within}
 
 -- lent doubles, three for each entry, of which the first count entries are in use

@@ -7,7 +7,7 @@ use lib.Dec.{ltb}
 use lib.IntN.{ℤ, pos}
 use lib.Ieee.{Float}
 use Rattle.base.specs.Refusals.{row, refusal, unless}
-use Rattle.color.specs.Doubles.{_⊘_, decimal}
+use Rattle.base.specs.Doubles.{_⊘_, decimal}
 use Rattle.color.specs.Hex.{hexToRgb8}
 use Rattle.color.specs.Lab.{rgb8ToLab}
 use Rattle.color.specs.declared.Rgb8.{Rgb8}

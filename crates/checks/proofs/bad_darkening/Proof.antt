@@ -3,7 +3,7 @@ use mathlib.Core.Path.{refl, ap}
 use mathlib.Core.Bool.{not}
 use borrow.Author.Needs.{needs}
 use lib.Ieee.{round, ofBits}
-use Rattle.color.specs.Doubles.{decimal}
+use Rattle.base.specs.Doubles.{decimal}
 use Rattle.rules.specs.Rows.{badDarkening}
 use Rattle.rules.specs.Palette.{between}
 use Rattle.checks.proofs.bad_darkening.Statement.{statement}

@@ -1,7 +1,7 @@
 -- `checks::limit_in_range`: the bounds are the doubles 0 and 1024. Assumes nothing.
 use borrow.Author.Needs.{needs}
 use lib.Ieee.{ofBits, round}
-use Rattle.color.specs.Doubles.{decimal}
+use Rattle.base.specs.Doubles.{decimal}
 use Rattle.rules.specs.Palette.{between}
 use Rattle.checks.proofs.limit_in_range.Statement.{statement}
 use Rattle.checks.proofs.limit_in_range.Tie as tie

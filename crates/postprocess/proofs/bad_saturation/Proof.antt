@@ -3,7 +3,7 @@ use mathlib.Core.Path.{sym, ap, _∙_}
 use mathlib.Core.Bool.{not}
 use lib.Ieee.{ofBits, round}
 use Rattle.base.proofs.Counting.{or-left}
-use Rattle.color.specs.Doubles.{decimal}
+use Rattle.base.specs.Doubles.{decimal}
 use Rattle.rules.specs.Palette.{between}
 use Rattle.rules.specs.Entries.{badSaturation}
 use borrow.Author.Needs.{needs}

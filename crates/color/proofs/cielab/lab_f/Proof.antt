@@ -1,6 +1,6 @@
 -- `color::cielab::lab_f` meets its contract. Assumes nothing.
 use lib.Ieee.{ofBits, round, div}
-use Rattle.color.specs.Doubles.{decimal}
+use Rattle.base.specs.Doubles.{decimal}
 use Rattle.color.specs.Lab.{edge, slope, shift, labF}
 use borrow.Author.Needs.{needs}
 use Rattle.color.proofs.cielab.lab_f.Statement.{statement}

@@ -1,6 +1,6 @@
 -- `color::cielab::lab_f_inv` meets its contract. Assumes nothing.
 use lib.Ieee.{ofBits, round, div}
-use Rattle.color.specs.Doubles.{decimal}
+use Rattle.base.specs.Doubles.{decimal}
 use Rattle.color.specs.Lab.{edgeInv, slope, shift, labFInv}
 use Rattle.color.proofs.cielab.lab_f_inv.Statement.{statement}
 use Rattle.color.proofs.cielab.lab_f_inv.Tie as tie

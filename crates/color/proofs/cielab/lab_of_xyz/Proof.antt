@@ -1,6 +1,6 @@
 -- `color::cielab::lab_of_xyz` meets its contract. Assumes nothing.
 use lib.Ieee.{ofBits, round}
-use Rattle.color.specs.Doubles.{decimal}
+use Rattle.base.specs.Doubles.{decimal}
 use Rattle.color.specs.Lab.{white, labOfXyz}
 use borrow.Author.Needs.{needs}
 use Rattle.color.proofs.cielab.lab_of_xyz.Statement.{statement}

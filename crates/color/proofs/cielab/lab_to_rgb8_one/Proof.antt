@@ -1,7 +1,7 @@
 -- `color::cielab::lab_to_rgb8_one` meets its contract. Assumes nothing.
 use mathlib.Core.Path.{ap, _∙_}
 use lib.Ieee.{ofBits, round, neg}
-use Rattle.color.specs.Doubles.{decimal}
+use Rattle.base.specs.Doubles.{decimal}
 use Rattle.color.specs.Lab.{rgbFromXyz, matVec}
 use Rattle.color.proofs.Colours.{rgb-is}
 use borrow.Author.Needs.{needs}

@@ -1,6 +1,6 @@
 -- `color::cielab::rgb8_to_lab_one` meets its contract. Assumes nothing.
 use lib.Ieee.{ofBits, round}
-use Rattle.color.specs.Doubles.{decimal}
+use Rattle.base.specs.Doubles.{decimal}
 use Rattle.color.specs.Lab.{xyzFromRgb, rgb8ToLab}
 use borrow.Author.Needs.{needs}
 use Rattle.color.proofs.cielab.rgb8_to_lab_one.Statement.{statement}

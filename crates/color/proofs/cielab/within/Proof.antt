@@ -1,6 +1,6 @@
 -- `color::cielab::within` meets its contract. Assumes nothing.
 use lib.Ieee.{ofBits, round, neg}
-use Rattle.color.specs.Doubles.{decimal}
+use Rattle.base.specs.Doubles.{decimal}
 use Rattle.color.specs.Lab.{within}
 use Rattle.color.proofs.cielab.within.Statement.{statement}
 use Rattle.color.proofs.cielab.within.Tie as tie

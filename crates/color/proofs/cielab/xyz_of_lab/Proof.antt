@@ -1,7 +1,7 @@
 -- `color::cielab::xyz_of_lab` meets its contract. Assumes nothing.
 use mathlib.Core.Logic.{⊎-elim}
 use lib.Ieee.{ofBits, round}
-use Rattle.color.specs.Doubles.{decimal}
+use Rattle.base.specs.Doubles.{decimal}
 use Rattle.color.specs.Lab.{white, xyzOfLab}
 use borrow.Author.Needs.{needs}
 use Rattle.color.proofs.cielab.xyz_of_lab.Statement.{statement}

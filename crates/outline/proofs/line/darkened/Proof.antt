@@ -1,7 +1,7 @@
 -- `outline::line::darkened` meets its contract. The same operations. Assumes nothing.
 use mathlib.Core.Path.{refl}
 use lib.Ieee.{round, ofBits}
-use Rattle.color.specs.Doubles.{decimal}
+use Rattle.base.specs.Doubles.{decimal}
 use Rattle.rules.specs.Outline.{darkened}
 use Rattle.outline.proofs.line.darkened.Statement.{statement}
 use Rattle.outline.proofs.line.darkened.Tie as tie

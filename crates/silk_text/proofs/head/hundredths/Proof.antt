@@ -2,7 +2,7 @@
 use mathlib.Core.Path.{refl}
 use borrow.Author.Needs.{needs}
 use lib.Ieee.{ofInt, ofBits}
-use Rattle.color.specs.Doubles.{decimal}
+use Rattle.base.specs.Doubles.{decimal}
 use Rattle.silk_text.specs.Format.{hundredths}
 use Rattle.silk_text.proofs.head.hundredths.Statement.{statement}
 use Rattle.silk_text.proofs.head.hundredths.Tie as tie

@@ -6,7 +6,7 @@ use Rattle.silk_text.specs.Answers.{numbered, passed, switched}
 use Rattle.silk_text.proofs.Chaining.{known}
 use Rattle.silk_text.proofs.Scanning.{line-small}
 use Rattle.silk_text.proofs.Signs.{pos-fits, back}
-use Rattle.color.specs.Doubles.{decimal}
+use Rattle.base.specs.Doubles.{decimal}
 use lib.Ieee.{ofInt}
 use Rattle.silk_text.proofs.cursor.Cursor.passes.Statement.{statement}
 use Rattle.silk_text.proofs.cursor.Cursor.passes.Tie as tie

@@ -1,14 +1,14 @@
--- `color::channel::byte` meets its contract. Assumes nothing.
+-- `channel::byte` meets its contract. Assumes nothing.
 use mathlib.Core.Path.{sym, _∙_, subst}
 use mathlib.Core.Logic.{⊎-elim}
 use Prim.Native.Nat.{ℕ, _+_, _-_, _/_, _<_}
 use native.Mathlib.Omega.{arith}
 use borrow.Author.Needs.{needs}
 use Rattle.roots.proofs.Units.{no-nan-bits}
-use Rattle.color.proofs.Tables.{thresholdTable, thresholdPattern}
-use Rattle.color.proofs.Thresholds.{threshold-fit, passes-at, Sought, sought-start, sought-hit, sought-miss, sought-end}
-use Rattle.color.proofs.channel.byte.Statement.{statement}
-use Rattle.color.proofs.channel.byte.Tie as tie
+use Rattle.channel.proofs.Tables.{thresholdTable, thresholdPattern}
+use Rattle.channel.proofs.Thresholds.{threshold-fit, passes-at, Sought, sought-start, sought-hit, sought-miss, sought-end}
+use Rattle.channel.proofs.byte.Statement.{statement}
+use Rattle.channel.proofs.byte.Tie as tie
 
 abbrev Inv-loop : tie.InvT-loop
 Inv-loop c table n₀ gap₀ n gap = Sought c n gap

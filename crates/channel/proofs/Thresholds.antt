@@ -14,10 +14,10 @@ use Rattle.base.specs.Places.{count}
 use Rattle.base.proofs.Counting.{case, clash, from-T, to-T, getD-within}
 use Rattle.roots.specs.Units.{limit}
 use Rattle.roots.proofs.Unique.{bits→lt}
-use Rattle.color.specs.Channel.{Decoded, Threshold, decodeOf, thresholdOf, byteOf}
-use Rattle.color.proofs.Patterns.{pattern-positive, pattern→le, le→pattern, le-through}
-use Rattle.color.proofs.Tests.{decodes-fit, decodes-rule, decoded-is, bounds-fit, bounds-rule, threshold-is, between}
-use Rattle.color.proofs.Tables.{thresholdTable, decodePattern, thresholdPattern, decode-test, threshold-test, rise-test, between-test}
+use Rattle.channel.specs.Channel.{Decoded, Threshold, decodeOf, thresholdOf, byteOf}
+use Rattle.channel.proofs.Patterns.{pattern-positive, pattern→le, le→pattern, le-through}
+use Rattle.channel.proofs.Tests.{decodes-fit, decodes-rule, decoded-is, bounds-fit, bounds-rule, threshold-is, between}
+use Rattle.channel.proofs.Tables.{thresholdTable, decodePattern, thresholdPattern, decode-test, threshold-test, rise-test, between-test}
 
 -- ---- each entry's rule
 pub decode-fit : (k : ℕ) → k < 256 → decodePattern k < limit

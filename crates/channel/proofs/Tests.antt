@@ -14,7 +14,7 @@ use lib.Ieee.Fits.{div-fits, and-l, and-r}
 use Rattle.roots.specs.Units.{limit}
 use Rattle.roots.proofs.Computed.{nearest-is, least-is}
 use Rattle.roots.proofs.Nearby.{isNearest, is-nearest, isLeast, is-least}
-use Rattle.color.specs.Channel.{decodeNum, thresholdNum, curveDen, lineNum, lineDen, straight, Decoded, Threshold, decodeOf, thresholdOf}
+use Rattle.channel.specs.Channel.{decodeNum, thresholdNum, curveDen, lineNum, lineDen, straight, Decoded, Threshold, decodeOf, thresholdOf}
 
 -- ---- decoding
 unfoldable pub decodes : ℕ → ℕ → Bool

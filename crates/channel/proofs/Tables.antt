@@ -6,10 +6,10 @@ use lib.ListN.{getD}
 use lib.Ieee.{div, round, toBits}
 use Rattle.roots.specs.Units.{limit, mag, magF}
 use Rattle.roots.proofs.Nearby.{isNearest, isLeast}
-use Rattle.color.specs.Doubles.{decimal}
-use Rattle.color.specs.Channel.{straight}
-use Rattle.color.proofs.Entries.{at}
-use Rattle.color.proofs.Tests.{decodes, bounds, between}
+use Rattle.base.specs.Doubles.{decimal}
+use Rattle.channel.specs.Channel.{straight}
+use Rattle.channel.proofs.Entries.{at}
+use Rattle.channel.proofs.Tests.{decodes, bounds, between}
 
 unfoldable pub decodeTable : List ℕ
 decodeTable =

@@ -7,7 +7,7 @@ use lib.Ieee.{Float, le}
 use Rattle.base.specs.Places.{count}
 use Rattle.roots.specs.Root.{NearestRoot, LeastNotBelow}
 use Rattle.roots.specs.Computed.{nearestRoot, leastNotBelow}
-use Rattle.color.specs.Doubles.{_⊘_, decimal}
+use Rattle.base.specs.Doubles.{_⊘_, decimal}
 
 -- the curve's fractions to the twelfth power: (40 k + 561) / 10761 for the byte k, (40 j + 541) / 10761 for its threshold
 abbrev pub decodeNum : ℕ → ℕ

@@ -1,10 +1,10 @@
--- `color::channel::decoded` meets its contract. Assumes nothing.
+-- `channel::decoded` meets its contract. Assumes nothing.
 use borrow.Author.Needs.{needs}
 use Rattle.roots.proofs.Units.{no-nan-bits}
-use Rattle.color.proofs.Tables.{decodeTable, decodePattern}
-use Rattle.color.proofs.Thresholds.{decode-fit, decode-is}
-use Rattle.color.proofs.channel.decoded.Statement.{statement}
-use Rattle.color.proofs.channel.decoded.Tie as tie
+use Rattle.channel.proofs.Tables.{decodeTable, decodePattern}
+use Rattle.channel.proofs.Thresholds.{decode-fit, decode-is}
+use Rattle.channel.proofs.decoded.Statement.{statement}
+use Rattle.channel.proofs.decoded.Tie as tie
 
 mul-result : tie.Need-mul-result
 mul-result c = search needs
