@@ -531,12 +531,11 @@ pub fn decoded(k: u8) -> f64
 pub fn byte(c: f64) -> u8
     ensures { λ r. ⌜ r ≡ byteOf c ⌝ }
 {
-    let table = THRESHOLDS;
     let mut n = 0usize;
     let mut gap = 256usize;
     while gap > 1 {
         let half = gap / 2;
-        if f64::from_bits(table[n + half - 1]) <= c {
+        if f64::from_bits(THRESHOLDS[n + half - 1]) <= c {
             n = n + half;
         }
         gap = gap - half;

@@ -11,10 +11,10 @@ use Rattle.channel.proofs.byte.Statement.{statement}
 use Rattle.channel.proofs.byte.Tie as tie
 
 abbrev Inv-loop : tie.InvT-loop
-Inv-loop c table n₀ gap₀ n gap = Sought c n gap
+Inv-loop c n₀ gap₀ n gap = Sought c n gap
 
 abbrev μ-loop : tie.MeasureT-loop
-μ-loop c table n₀ gap₀ n gap = gap
+μ-loop c n₀ gap₀ n gap = gap
 
 loop-holds : tie.Need-loop-holds Inv-loop μ-loop
 loop-holds c = sought-start (c .args .c)
