@@ -1,7 +1,6 @@
 // A channel's two tables, as the bits of doubles: what each byte decodes to, and the thresholds of the bytes 1 to 255.
 ghost use mathlib.Core.Path.{_≡_};
-ghost use Prim.Native.Nat.{_<_};
-ghost use Rattle.channel.specs.Channel.{decodeOf, thresholdOf, byteOf};
+ghost use Rattle.channel.specs.Channel.{decodeOf, byteOf};
 
 const DECODE: [u64; 256] = [
     0x0000000000000000,
