@@ -17,7 +17,7 @@ ghost use Rattle.rules.specs.Rows.{tooLarge, tooShort, cramped, badPalette, bad
 ghost use Rattle.outline.specs.Room.{Held};
 
 // Whether an outline is asked for.
-fn asked(outline: Outline) -> bool
+pub fn asked(outline: Outline) -> bool
     ensures { λ r. ⌜ r ≡ asked outline ⌝ }
 {
     match outline {

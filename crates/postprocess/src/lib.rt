@@ -1,4 +1,5 @@
-// What `run` does to a palette first: saturation.
+// What `run` refuses, and what it does to a palette first: saturation.
+pub mod rows;
 pub mod saturation;
 
 use crate::saturation::saturate;
