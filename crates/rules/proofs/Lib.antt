@@ -7,5 +7,7 @@ pub mod Grids
 pub mod More
 pub mod Sheets
 pub mod Opacity
+pub mod Freezing
+pub mod Promises
 pub mod Examples
 pub mod Labels

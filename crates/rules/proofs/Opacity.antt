@@ -252,7 +252,7 @@ module _ (config : PostConfig) (saturated fixed : Bool) (margin : ℤ) (s : Shee
   abbrev before : Sheet
   before = canvas (pads (padAllowed config margin) (config .outline) s) s
 
-  run-shown : Shown (asked (config .outline)) before (process config saturated fixed margin s palette .sheet)
+  pub run-shown : Shown (asked (config .outline)) before (process config saturated fixed margin s palette .sheet)
   unfolding process
   run-shown =
       let ink = toned (saturated || fixed) config palette in

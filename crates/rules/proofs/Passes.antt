@@ -281,7 +281,7 @@ module _ (rule : Rule) (symm : Symmetric (rule .adj)) (s : State) (len : length 
   kept : (p : ℕ) → p < n → merges (fateAt p) ≡ false → at cells′ p ≡ at cells p
   kept p h e = cell-at p h ∙ unpainted (fateAt p) (at cells p) e
 
-  fate-join : {p q : ℕ} → Joined (rule .adj) cells p q → fateAt p ≡ fateAt q
+  pub fate-join : {p q : ℕ} → Joined (rule .adj) cells p q → fateAt p ≡ fateAt q
   fate-join j = ap (verdict rule (view rule s)) (join-root n (rule .adj) cells len symm j)
 
   pub view-large : (p : ℕ) → p < n → marked (view rule s .large) p ≡ large rule cells p

@@ -10,4 +10,5 @@ pub mod Claims
 pub mod Masks
 pub mod Rows
 pub mod Entries
+pub mod Promises
 pub mod Cases
