@@ -252,19 +252,29 @@ module _ (config : PostConfig) (saturated fixed : Bool) (margin : ℤ) (s : Shee
   abbrev before : Sheet
   before = canvas (pads (padAllowed config margin) (config .outline) s) s
 
+  abbrev ink : Palette
+  ink = toned (saturated || fixed) config palette
+
+  -- after a cleaning of at most k passes, corners and outline
+  module _ (k : ℕ) where
+    abbrev one : Sheet
+    one = tidyIf (config .«remove_orphans») k ink (limitsOf config) s .sheet
+
+    abbrev cut : Sheet
+    cut = cond (config .«fix_jaggies») (trim one) one
+
+    pub met-shown : Shown (asked (config .outline)) before (outlineIf fixed config margin cut ink .sheet)
+    met-shown =
+        let a = tidied-alike (config .«remove_orphans») k ink (limitsOf config) s len in
+        let c = trans a (cut-alike (config .«fix_jaggies») one (a .full)) in
+        let l = line-shown fixed config margin cut ink (c .full) in
+        shown-alike (canvas-alike c len (pads (padAllowed config margin) (config .outline) s))
+        (subst (λ (b : Bool). Shown (asked (config .outline)) (canvas b cut) (outlineIf fixed config margin cut ink .sheet)) (pads-same c (padAllowed config margin) (config .outline)) l)
+
+  -- and after the second cleaning
   pub run-shown : Shown (asked (config .outline)) before (process config saturated fixed margin s palette .sheet)
   unfolding process
-  run-shown =
-      let ink = toned (saturated || fixed) config palette in
-      let a = tidied-alike (config .«remove_orphans») 5 ink (limitsOf config) s len in
-      let one = tidyIf (config .«remove_orphans») 5 ink (limitsOf config) s .sheet in
-      let k = trans a (cut-alike (config .«fix_jaggies») one (a .full)) in
-      let cut = cond (config .«fix_jaggies») (trim one) one in
-      let line = outlineIf fixed config margin cut ink in
-      let l = line-shown fixed config margin cut ink (k .full) in
-      let c = subst (λ (b : Bool). Shown (asked (config .outline)) (canvas b cut) (line .sheet)) (pads-same k (padAllowed config margin) (config .outline)) l in
-      let m = shown-alike (canvas-alike k len (pads (padAllowed config margin) (config .outline) s)) c in
-      then m (tidied-alike (config .«remove_orphans» && asked (config .outline)) 1 (line .palette) (limitsOf config) (line .sheet) (m .full))
+  run-shown = let m = met-shown _ in then m (tidied-alike _ _ _ _ _ (m .full))
 
   -- `run` keeps opaque cells opaque, and makes the ring's cells opaque, if an outline is asked for, and no other
   pub run-opaque : KeepsOpaque (asked (config .outline)) before (process config saturated fixed margin s palette .sheet)

@@ -18,7 +18,6 @@ use Rattle.rules.specs.Sheet.{Sheet, area, sheetOf, over, needed}
 use Rattle.rules.specs.Palette.{Palette}
 use Rattle.rules.specs.Regions.{at}
 use Rattle.rules.specs.Pass.{Rule, small, smalls, fresh, Cleaned}
-use Rattle.rules.specs.Corners.{trim}
 use Rattle.rules.specs.Outline.{asked, pads}
 use Rattle.rules.specs.Run.{Limits, ruleOn, tidy, tidyIf, limitsOf, toned, padAllowed, Ran, process}
 use Rattle.rules.specs.Rows.{tooShort}
@@ -29,7 +28,7 @@ use Rattle.rules.proofs.Grids.{eight-symmetric}
 use Rattle.rules.proofs.Runs.{run-length}
 use Rattle.rules.proofs.Freezing.{was-frozen}
 use Rattle.rules.proofs.Sheets.{sheet-runs}
-use Rattle.rules.proofs.Opacity.{tidied-alike, cut-alike, line-shown, run-shown, run-opaque}
+use Rattle.rules.proofs.Opacity.{tidied-alike, met-shown, run-shown, run-opaque}
 
 -- ---- lent lists
 
@@ -183,10 +182,7 @@ module _ (cells : List ℤ) (h w : ℕ) (palette : Palette) (config : PostConfig
 
   met-whole : length (secondMet config fixed margin ink came .sheet .cells) ≡ area (secondMet config fixed margin ink came .sheet)
   unfolding secondMet firstLeft
-  met-whole =
-      let t = firstLeft config ink came in
-      let a = tidied-alike (config .«remove_orphans») 5 ink (limitsOf config) came came-whole in
-      line-shown fixed config margin (cond (config .«fix_jaggies») (trim t) t) ink (cut-alike (config .«fix_jaggies») t (a .full) .full) .full
+  met-whole = met-shown config saturated fixed margin came palette came-whole _ .full
 
   left-sheet : sheetOf (runCells cells h w palette config saturated fixed margin work) (result .sheet .height) (result .sheet .width) ≡ result .sheet
   unfolding runCells unless sheetOf area
