@@ -25,7 +25,7 @@ use Rattle.rules.specs.Entries.{orphansRefusal, orphansAnswer, orphansCe
 use Rattle.rules.specs.Claims.{cleaned, Apart, KeepsOpaque}
 use Rattle.rules.specs.Promises.{WasFrozen, ruleFor, initial, ruled, front, Cleans, Agree, RunsAgree, TwoCalls, CleansIf, firstLeft, secondMet, beforeRun, RunCall}
 use Rattle.rules.proofs.Grids.{eight-symmetric}
-use Rattle.rules.proofs.Runs.{run-length}
+use Rattle.rules.proofs.Runs.{run-length, run-kept}
 use Rattle.rules.proofs.Freezing.{was-frozen}
 use Rattle.rules.proofs.Sheets.{sheet-runs}
 use Rattle.rules.proofs.Opacity.{tidied-alike, met-shown, run-shown, run-opaque}
@@ -62,7 +62,7 @@ module _ (palette : Palette) (limits : Limits) (start : Sheet) (len : length (st
 
   -- any cleaning that leaves the rule's cells and reports the rule's count
   cleans : (k : ℕ) (left : List ℤ) → ((x : ℕ) → x < area start → at left x ≡ at (after k) x) → Cleans palette limits start k left (ruled palette limits start k .count)
-  unfolding cleaned
+  unfolding cleaned ruleOn fresh
   cleans k left same =
       let r = sheet-runs palette limits start len k k (le-refl k) .runs .first in
       record {
@@ -71,6 +71,7 @@ module _ (palette : Palette) (limits : Limits) (start : Sheet) (len : length (st
         bounded = r .bounded;
         cells = same;
         counts = refl;
+        kept = λ x h e. same x h ∙ run-kept rule (eight-symmetric (start .width)) k (initial palette limits start) len x e;
       }
 
   -- why a small region is left

@@ -13,7 +13,7 @@ use Rattle.rules.specs.Pass.{Rule, State, marked, small, large, smalls, 
 use Rattle.rules.specs.Claims.{repaintings, cleaned, Left, OneRun, TwoRuns}
 use Rattle.base.proofs.Counting.{case, clash, table-at, table-length, any-yes, any-no}
 use Rattle.rules.proofs.Roots.{join-right, opaque-below}
-use Rattle.rules.proofs.Passes.{pass-length, large-kept, large-stays, repainted, repainted-large, not-both, repaints-below, repainted-small, large-source, fewer-smalls, frozen-length, still, small-counted, Whole, whole-stays, left-why}
+use Rattle.rules.proofs.Passes.{pass-length, large-kept, large-stays, repainted, repainted-large, not-both, repaints-below, repainted-small, unpainted-kept, large-source, fewer-smalls, frozen-length, still, small-counted, Whole, whole-stays, left-why}
 
 pub clean-go : (rule : Rule) (k : ℕ) (s : State) → moves rule (fates rule s) ≡ true → clean rule (suc k) s ≡ record { state = clean rule k (pass rule s) .state; count = suc (clean rule k (pass rule s) .count) }
 unfolding clean pass
@@ -88,6 +88,18 @@ module _ (rule : Rule) (symm : Symmetric (rule .adj)) where
       (case (repaints rule s x) (λ r. rw (r, run-never k (pass rule s) l x (repainted-large rule symm s len x r)) (le-refl 1))
       (λ r. let i = run-once k (pass rule s) l x in rw r (omega arith))))
       (λ z. rw (paint-stop rule k s x z, moves-no s len z x) zero-le)
+
+  -- a cell that is not repainted stays as it is
+  pub run-kept : (k : ℕ) (s : State) → length (s .cells) ≡ rule .places → (x : ℕ) → repaintings rule k s x ≡ 0 → at (clean rule k s .state .cells) x ≡ at (s .cells) x
+  unfolding repaintings clean
+  run-kept zero s len x e = refl
+  run-kept (suc k) s len x e =
+      case (moves rule (fates rule s))
+      (λ y. rw (clean-go rule k s y)
+      (case (repaints rule s x) (λ r. let e′ : 1 + repaintings rule k (pass rule s) x ≡ 0 = rw (paint-go rule k s x y, r) at e in absurd (omega arith))
+      (λ r. let e′ : 0 + repaintings rule k (pass rule s) x ≡ 0 = rw (paint-go rule k s x y, r) at e in
+      run-kept k (pass rule s) (pass-length rule symm s len) x (omega arith) ∙ unpainted-kept rule symm s len x r)))
+      (λ z. rw (clean-stop rule k s z) (unpainted-kept rule symm s len x (moves-no s len z x)))
 
   -- a repainted cell ends in a large region, with an index that a large region had at the start
   run-source : (k : ℕ) (s : State) → length (s .cells) ≡ rule .places → (x : ℕ) → 0 < repaintings rule k s x → (large rule (clean rule k s .state .cells) x ≡ true) × ((y : ℕ) × (large rule (s .cells) y ≡ true) × (at (clean rule k s .state .cells) x ≡ at (s .cells) y))

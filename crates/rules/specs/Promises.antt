@@ -58,6 +58,8 @@ module _ (palette : Palette) (limits : Limits) (start : Sheet) where
     -- it leaves the rule's cells and reports the rule's count
     pub cells : (x : ℕ) → x < area start → at left x ≡ at (ruled k .state .cells) x
     pub counts : count ≡ ruled k .count
+    -- a cell that is not repainted keeps its index
+    pub kept : (x : ℕ) → x < area start → repaintings ruleFor k initial x ≡ 0 → at left x ≡ at (start .cells) x
 
   -- two cleanings, of at most p and of at most q passes, that end alike
   pub record EndAlike (p q : ℕ) (left left′ : List ℤ) (count count′ : ℕ) : Type 0 where
