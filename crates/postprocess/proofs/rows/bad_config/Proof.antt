@@ -1,7 +1,7 @@
 -- `postprocess::rows::bad_config` meets its contract, setting by setting. Assumes nothing.
 use mathlib.Core.Path.{_≡_, sym, ap, _∙_}
 use lib.Ieee.{ofBits, round}
-use Rattle.color.specs.Doubles.{decimal}
+use Rattle.base.specs.Doubles.{decimal}
 use Rattle.rules.specs.Palette.{paletteOf, outOfRange, between}
 use Rattle.rules.specs.Run.{toned}
 use Rattle.rules.specs.Entries.{badConfig}
