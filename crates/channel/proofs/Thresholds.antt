@@ -4,7 +4,7 @@ use mathlib.Core.Path.{_≡_, sym, ap, _∙_, subst}
 use mathlib.Core.Logic.{inl, inr}
 use mathlib.Core.Bool.{Bool, true, false}
 use native.Mathlib.Nat.{le-refl, le-trans, le-of-eq, le-of-suc-le-suc, suc-inj, lt-trans, lt-of-le-of-lt, lt-of-lt-of-le, le-of-lt, eq-or-lt-of-le, not-suc-le-zero, not-le-of-lt, le-step, lt-suc-self}
-use mathlib.Core.List.{_∷_}
+use mathlib.Core.List.{List, _∷_}
 use native.Mathlib.Omega.{arith}
 use lib.Dec.{T, ltb, leb, ltb→lt, leb→le, lit<}
 use lib.ListN.{getD}
@@ -14,7 +14,7 @@ use Rattle.base.specs.Places.{count}
 use Rattle.base.proofs.Counting.{case, clash, from-T, to-T, getD-within}
 use Rattle.roots.specs.Units.{limit}
 use Rattle.roots.proofs.Unique.{bits→lt}
-use Rattle.channel.specs.Channel.{Decoded, Threshold, decodeOf, thresholdOf, byteOf}
+use Rattle.channel.specs.Channel.{Decoded, Threshold, ThresholdTable, decodeOf, thresholdOf, byteOf}
 use Rattle.channel.proofs.Patterns.{pattern-positive, pattern→le, le→pattern, le-through}
 use Rattle.channel.proofs.Tests.{decodes-fit, decodes-rule, decoded-is, bounds-fit, bounds-rule, threshold-is, between}
 use Rattle.channel.proofs.Tables.{thresholdTable, decodePattern, thresholdPattern, decode-test, threshold-test, rise-test, between-test}
@@ -71,9 +71,14 @@ pattern-pos i h = lt-of-lt-of-le (lit< tt) (patterns-climb 0 i zero-le h)
 unfoldable pub passes : Float → ℕ → Bool
 passes c i = le (thresholdOf (i + 1)) c
 
-pub passes-at : (c : Float) (i : ℕ) → i < 255 → passes c i ≡ le (ofBits binary64 (thresholdPattern i)) c
+passes-at : (c : Float) (i : ℕ) → i < 255 → passes c i ≡ le (ofBits binary64 (thresholdPattern i)) c
 unfolding passes
 passes-at c i h = ap (λ (y : Float). le y c) (sym (entry-is i h))
+
+-- the same read from a table
+pub passes-by : {l : List ℕ} → ThresholdTable l → (c : Float) (i : ℕ) → i < 255 → passes c i ≡ le (ofBits binary64 (getD l i 0)) c
+unfolding passes
+passes-by t c i h = ap (λ (y : Float). le y c) (sym (t .entry i h))
 
 pub earlier : (c : Float) (i j : ℕ) → i ≤ j → j < 255 → passes c j ≡ true → passes c i ≡ true
 earlier c i j l h t =

@@ -3,8 +3,11 @@ use Prim.Native.Nat.{ℕ, _+_, _-_, _*_, _^_, _≤_, _<_}
 use mathlib.Core.Path.{_≡_}
 use mathlib.Core.Bool.{cond}
 use lib.Dec.{leb}
-use lib.Ieee.{Float, le}
+use mathlib.Core.List.{List}
+use lib.Ieee.{Float, binary64, ofBits, le}
+use lib.ListN.{length, getD}
 use Rattle.base.specs.Places.{count}
+use Rattle.roots.specs.Units.{limit}
 use Rattle.roots.specs.Root.{NearestRoot, LeastNotBelow}
 use Rattle.roots.specs.Computed.{nearestRoot, leastNotBelow}
 use Rattle.base.specs.Doubles.{_⊘_, decimal}
@@ -51,3 +54,17 @@ pub record Decoded (k : ℕ) (y : Float) : Type 0 where
 pub record Threshold (j : ℕ) (y : Float) : Type 0 where
   pub linear : j ≤ 10 → LeastNotBelow 1 (lineNum j) lineDen y
   pub curved : 10 < j → LeastNotBelow 5 (thresholdNum j) curveDen y
+
+-- ---- the tables, as lists of bit patterns
+
+-- what each byte decodes to
+pub record DecodeTable (l : List ℕ) : Type 0 where
+  pub size : length l ≡ 256
+  pub fits : (k : ℕ) → k < 256 → getD l k 0 < limit
+  pub entry : (k : ℕ) → k < 256 → ofBits binary64 (getD l k 0) ≡ decodeOf k
+
+-- the thresholds of the bytes 1 to 255
+pub record ThresholdTable (l : List ℕ) : Type 0 where
+  pub size : length l ≡ 255
+  pub fits : (i : ℕ) → i < 255 → getD l i 0 < limit
+  pub entry : (i : ℕ) → i < 255 → ofBits binary64 (getD l i 0) ≡ thresholdOf (i + 1)

@@ -1,6 +1,6 @@
 // A channel's two tables, as the bits of doubles: what each byte decodes to, and the thresholds of the bytes 1 to 255.
 ghost use mathlib.Core.Path.{_≡_};
-ghost use Rattle.channel.specs.Channel.{decodeOf, byteOf};
+ghost use Rattle.channel.specs.Channel.{decodeOf, byteOf, DecodeTable, ThresholdTable};
 
 const DECODE: [u64; 256] = [
     0x0000000000000000,
@@ -519,22 +519,38 @@ const THRESHOLDS: [u64; 255] = [
     0x3fefdb81b627af91,
 ];
 
+// The table of what each byte decodes to. Whoever decodes many bytes makes it once.
+pub fn decode_table() -> [u64; 256]
+    ensures { λ r. ⌜ DecodeTable r ⌝ }
+{
+    DECODE
+}
+
+// The table of the thresholds.
+pub fn threshold_table() -> [u64; 255]
+    ensures { λ r. ⌜ ThresholdTable r ⌝ }
+{
+    THRESHOLDS
+}
+
 // What the byte k decodes to.
-pub fn decoded(k: u8) -> f64
+pub fn decoded(table: &[u64], k: u8) -> f64
+    requires { ⌜ DecodeTable (now table) ⌝ }
     ensures { λ y. ⌜ y ≡ decodeOf k ⌝ }
 {
-    f64::from_bits(DECODE[k as usize])
+    f64::from_bits(table[k as usize])
 }
 
 // A channel's byte: the number of thresholds that are not above it. They rise, so the number is found by halving the gap in which it lies.
-pub fn byte(c: f64) -> u8
+pub fn byte(table: &[u64], c: f64) -> u8
+    requires { ⌜ ThresholdTable (now table) ⌝ }
     ensures { λ r. ⌜ r ≡ byteOf c ⌝ }
 {
     let mut n = 0usize;
     let mut gap = 256usize;
     while gap > 1 {
         let half = gap / 2;
-        if f64::from_bits(THRESHOLDS[n + half - 1]) <= c {
+        if f64::from_bits(table[n + half - 1]) <= c {
             n = n + half;
         }
         gap = gap - half;

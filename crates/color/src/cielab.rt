@@ -3,10 +3,13 @@ ghost use mathlib.Core.Path.{_≡_};
 ghost use Prim.Native.Nat.{_+_, _*_, _<_};
 ghost use lib.ListN.{length};
 ghost use Rattle.color.specs.Lab.{entry, within, dist2, distance, dot, matVec, labF, labFInv, labOfXyz, xyzOfLab, rgb8ToLab, labToRgb8};
+ghost use Rattle.channel.specs.Channel.{DecodeTable, ThresholdTable};
 use crate::Lab;
 use crate::Rgb8;
 use channel::byte;
+use channel::decode_table;
 use channel::decoded;
+use channel::threshold_table;
 
 // Linear sRGB to XYZ.
 const XYZ_FROM_RGB: [[f64; 3]; 3] = [
@@ -144,22 +147,44 @@ fn xyz_of_lab(c: Lab) -> [f64; 3]
     ]
 }
 
-// A colour of sRGB as one of CIELAB.
-pub fn rgb8_to_lab_one(c: Rgb8) -> Lab
+// A colour of sRGB as one of CIELAB, by a table that was made before.
+pub fn rgb8_to_lab_by(table: &[u64], c: Rgb8) -> Lab
+    requires { ⌜ DecodeTable (now table) ⌝ }
     ensures { λ r. ⌜ r ≡ rgb8ToLab c ⌝ }
 {
-    let lin = [decoded(c.r), decoded(c.g), decoded(c.b)];
+    let lin = [
+        decoded(table, c.r),
+        decoded(table, c.g),
+        decoded(table, c.b),
+    ];
     lab_of_xyz(mat_vec(XYZ_FROM_RGB, lin))
 }
 
-// A colour of CIELAB as one of sRGB, cut to the range of a byte.
-pub fn lab_to_rgb8_one(c: Lab) -> Rgb8
+// A colour of CIELAB as one of sRGB, cut to the range of a byte, by a table that was made before.
+pub fn lab_to_rgb8_by(table: &[u64], c: Lab) -> Rgb8
+    requires { ⌜ ThresholdTable (now table) ⌝ }
     ensures { λ r. ⌜ r ≡ labToRgb8 c ⌝ }
 {
     let lin = mat_vec(RGB_FROM_XYZ, xyz_of_lab(c));
     Rgb8 {
-        r: byte(lin[0]),
-        g: byte(lin[1]),
-        b: byte(lin[2]),
+        r: byte(table, lin[0]),
+        g: byte(table, lin[1]),
+        b: byte(table, lin[2]),
     }
+}
+
+// One colour of sRGB as one of CIELAB.
+pub fn rgb8_to_lab_one(c: Rgb8) -> Lab
+    ensures { λ r. ⌜ r ≡ rgb8ToLab c ⌝ }
+{
+    let table = decode_table();
+    rgb8_to_lab_by(&table, c)
+}
+
+// One colour of CIELAB as one of sRGB.
+pub fn lab_to_rgb8_one(c: Lab) -> Rgb8
+    ensures { λ r. ⌜ r ≡ labToRgb8 c ⌝ }
+{
+    let table = threshold_table();
+    lab_to_rgb8_by(&table, c)
 }

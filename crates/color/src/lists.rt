@@ -9,15 +9,18 @@ ghost use Rattle.base.specs.Outputs.{filled};
 ghost use Rattle.base.specs.Refusals.{refusal, filling};
 ghost use Rattle.color.specs.Entries.{colours, strays, byteEntry, labAt, rgb8At, deltaAt, matrixAt, nearestAt, closer, bestOf};
 ghost use Rattle.color.specs.Entries.{rgb8ToLabRows, rgb8ToLabOut, labToRgb8Rows, labToRgb8Out, deltaERows, deltaEOut, matrixRows, matrixOut, nearestRows, nearestOut};
+ghost use Rattle.channel.specs.Channel.{DecodeTable, ThresholdTable};
 use crate::Lab;
 use crate::Rgb8;
 use crate::cielab::dist2;
 use crate::cielab::distance;
 use crate::cielab::entry;
-use crate::cielab::lab_to_rgb8_one;
-use crate::cielab::rgb8_to_lab_one;
+use crate::cielab::lab_to_rgb8_by;
+use crate::cielab::rgb8_to_lab_by;
 use crate::cielab::within;
 use base::Filling;
+use channel::decode_table;
+use channel::threshold_table;
 
 // Whether a value is NaN or beyond 1024 either way.
 fn strays(list: &[f64]) -> bool
@@ -88,14 +91,15 @@ fn rgb8_to_lab_answer(rgb8: &[u8], room: usize) -> Filling
     Filling::Done
 }
 
-fn fill_lab(rgb8: &[u8], out: &mut [f64])
+fn fill_lab(table: &[u64], rgb8: &[u8], out: &mut [f64])
+    requires { ⌜ DecodeTable (now table) ⌝ }
     requires { ⌜ 3 * colours (now rgb8) ≤ length (now out) ⌝ }
     ensures { λ _. ⌜ now (out .exit) ≡ filled (3 * colours (now (rgb8 .entry))) (labAt (now (rgb8 .entry))) (now (out .entry)) ⌝ }
 {
     let n = rgb8.len() / 3;
     let mut i = 0;
     while i < n {
-        put_lab(out, i, rgb8_to_lab_one(byte_entry(rgb8, i)));
+        put_lab(out, i, rgb8_to_lab_by(table, byte_entry(rgb8, i)));
         i += 1;
     }
 }
@@ -107,7 +111,8 @@ pub fn rgb8_to_lab(rgb8: &[u8], out: &mut [f64]) -> Filling
 {
     let answer = rgb8_to_lab_answer(rgb8, out.len());
     if let Filling::Done = answer {
-        fill_lab(rgb8, out);
+        let table = decode_table();
+        fill_lab(&table, rgb8, out);
     }
     answer
 }
@@ -128,14 +133,15 @@ fn lab_to_rgb8_answer(lab: &[f64], room: usize) -> Filling
     Filling::Done
 }
 
-fn fill_rgb8(lab: &[f64], out: &mut [u8])
+fn fill_rgb8(table: &[u64], lab: &[f64], out: &mut [u8])
+    requires { ⌜ ThresholdTable (now table) ⌝ }
     requires { ⌜ 3 * colours (now lab) ≤ length (now out) ⌝ }
     ensures { λ _. ⌜ now (out .exit) ≡ filled (3 * colours (now (lab .entry))) (rgb8At (now (lab .entry))) (now (out .entry)) ⌝ }
 {
     let n = lab.len() / 3;
     let mut i = 0;
     while i < n {
-        put_rgb8(out, i, lab_to_rgb8_one(entry(lab, i)));
+        put_rgb8(out, i, lab_to_rgb8_by(table, entry(lab, i)));
         i += 1;
     }
 }
@@ -147,7 +153,8 @@ pub fn lab_to_rgb8(lab: &[f64], out: &mut [u8]) -> Filling
 {
     let answer = lab_to_rgb8_answer(lab, out.len());
     if let Filling::Done = answer {
-        fill_rgb8(lab, out);
+        let table = threshold_table();
+        fill_rgb8(&table, lab, out);
     }
     answer
 }

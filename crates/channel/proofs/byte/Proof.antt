@@ -5,16 +5,15 @@ use Prim.Native.Nat.{ℕ, _+_, _-_, _/_, _<_}
 use native.Mathlib.Omega.{arith}
 use borrow.Author.Needs.{needs}
 use Rattle.roots.proofs.Units.{no-nan-bits}
-use Rattle.channel.proofs.Tables.{thresholdTable, thresholdPattern}
-use Rattle.channel.proofs.Thresholds.{threshold-fit, passes-at, Sought, sought-start, sought-hit, sought-miss, sought-end}
+use Rattle.channel.proofs.Thresholds.{passes-by, Sought, sought-start, sought-hit, sought-miss, sought-end}
 use Rattle.channel.proofs.byte.Statement.{statement}
 use Rattle.channel.proofs.byte.Tie as tie
 
 abbrev Inv-loop : tie.InvT-loop
-Inv-loop c n₀ gap₀ n gap = Sought c n gap
+Inv-loop table c n₀ gap₀ n gap = Sought c n gap
 
 abbrev μ-loop : tie.MeasureT-loop
-μ-loop c n₀ gap₀ n gap = gap
+μ-loop table c n₀ gap₀ n gap = gap
 
 loop-holds : tie.Need-loop-holds Inv-loop μ-loop
 loop-holds c = sought-start (c .args .c)
@@ -28,12 +27,11 @@ sub-if1 c = omega arith
 mul-if1 : tie.Need-mul-if1 Inv-loop μ-loop
 mul-if1 c = search needs
 
-array-read-if1 : tie.Need-array-read-if1 Inv-loop μ-loop
-array-read-if1 c = omega arith
+shared-slice-read-if1 : tie.Need-shared-slice-read-if1 Inv-loop μ-loop
+shared-slice-read-if1 c = omega arith
 
 float-from-bits-if1 : tie.Need-float-from-bits-if1 Inv-loop μ-loop
-unfolding thresholdPattern thresholdTable
-float-from-bits-if1 c = no-nan-bits _ (threshold-fit (c .before .loop .n + c .before .loop .gap / 2 - 1) (omega arith))
+float-from-bits-if1 c = let d = c .before .before in no-nan-bits _ (d .before .pre .fits (d .loop .n + d .loop .gap / 2 - 1) (omega arith))
 
 add-n : tie.Need-add-n Inv-loop μ-loop
 add-n c = search needs
@@ -45,12 +43,12 @@ loop-less : tie.Need-loop-less Inv-loop μ-loop
 loop-less c = omega arith
 
 loop-again : tie.Need-loop-again Inv-loop μ-loop
-unfolding thresholdPattern thresholdTable
 loop-again c =
-    let d = c .before .before .loop in
-    let x = c .before .before .before .args .c in
-    let m : 1 < d .gap = c .before .loop-test .taken in
-    let e = passes-at x (d .n + d .gap / 2 - 1) (omega arith) in
+    let f = c .before .before .before in
+    let d = f .loop in
+    let x = f .before .args .c in
+    let m : 1 < d .gap = c .before .before .loop-test .taken in
+    let e = passes-by (f .before .pre) x (d .n + d .gap / 2 - 1) (omega arith) in
     ⊎-elim
     (λ w. subst (λ (n : ℕ). Sought x n (d .gap - d .gap / 2)) (sym (w .1)) (sought-hit x (d .n) (d .gap) (d .inv) m (e ∙ w .0 .taken)))
     (λ w. subst (λ (n : ℕ). Sought x n (d .gap - d .gap / 2)) (sym (w .1)) (sought-miss x (d .n) (d .gap) (d .inv) m (e ∙ w .0 .left)))
@@ -72,7 +70,7 @@ byte-spec =
     add-if1
     sub-if1
     mul-if1
-    array-read-if1
+    shared-slice-read-if1
     float-from-bits-if1
     add-n
     sub-gap

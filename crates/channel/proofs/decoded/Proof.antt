@@ -1,24 +1,21 @@
 -- `channel::decoded` meets its contract. Assumes nothing.
 use borrow.Author.Needs.{needs}
+use native.Mathlib.Omega.{arith}
 use Rattle.roots.proofs.Units.{no-nan-bits}
-use Rattle.channel.proofs.Tables.{decodeTable, decodePattern}
-use Rattle.channel.proofs.Thresholds.{decode-fit, decode-is}
 use Rattle.channel.proofs.decoded.Statement.{statement}
 use Rattle.channel.proofs.decoded.Tie as tie
 
 mul-result : tie.Need-mul-result
 mul-result c = search needs
 
-array-read-result : tie.Need-array-read-result
-array-read-result c = search needs
+shared-slice-read-result : tie.Need-shared-slice-read-result
+shared-slice-read-result c = omega (arith, c .before .pre .size)
 
 float-from-bits-result : tie.Need-float-from-bits-result
-unfolding decodePattern decodeTable
-float-from-bits-result c = no-nan-bits _ (decode-fit (c .args .k) (search needs))
+float-from-bits-result c = no-nan-bits _ (c .before .pre .fits (c .before .args .k) (search needs))
 
 returns : tie.Need-returns
-unfolding decodePattern decodeTable
-returns c = decode-is (c .args .k) (search needs)
+returns c = c .before .pre .entry (c .before .args .k) (search needs)
 
 pub decoded-spec : {M : Type 1} → statement M
-decoded-spec = tie.close (tie.spec mul-result array-read-result float-from-bits-result returns)
+decoded-spec = tie.close (tie.spec mul-result shared-slice-read-result float-from-bits-result returns)

@@ -12,8 +12,16 @@ lab-to-rgb8-answer-requires c κs = tt
 enum-told : tie.Need-enum-told
 enum-told c = search needs
 
+threshold-table-requires : tie.Need-threshold-table-requires
+threshold-table-requires c κs = tt
+
+slice-aggregate-fill-rgb8 : tie.Need-slice-aggregate-fill-rgb8
+slice-aggregate-fill-rgb8 c = search needs
+
 fill-rgb8-requires : tie.Need-fill-rgb8-requires
-fill-rgb8-requires c κs = lab-to-rgb8-room _ _ (sym (c .before .enum-told .given .1) ∙ c .before .before .before .lab-to-rgb8-answer .ensures)
+fill-rgb8-requires c κs =
+    let d = c .before .before .before in
+    (c .before .before .threshold-table .ensures, lab-to-rgb8-room _ _ (sym (d .enum-told .given .1) ∙ d .before .before .lab-to-rgb8-answer .ensures))
 
 enum-told-2 : tie.Need-enum-told-2
 enum-told-2 c = search needs
@@ -24,8 +32,8 @@ same-length c = search needs
 returns : tie.Need-returns
 unfolding labToRgb8Out
 returns c =
-    let told = c .before .before .before .before .before .before .lab-to-rgb8-answer .ensures in
-    (told, c .before .before .fill-rgb8 .ensures ∙ wrote _ _ _ (sym (c .before .before .before .before .enum-told .given .1) ∙ told))
+    let told = c .before .before .before .before .before .before .before .before .lab-to-rgb8-answer .ensures in
+    (told, c .before .before .fill-rgb8 .ensures ∙ wrote _ _ _ (sym (c .before .before .before .before .before .before .enum-told .given .1) ∙ told))
 
 returns-2 : tie.Need-returns-2
 unfolding labToRgb8Out
@@ -34,4 +42,4 @@ returns-2 c =
     (told, kept _ _ _ _ (sym (c .enum-told2 .given .1) ∙ told))
 
 pub lab-to-rgb8-spec : {M : Type 1} → statement M
-lab-to-rgb8-spec = tie.close (tie.spec lab-to-rgb8-answer-requires enum-told fill-rgb8-requires enum-told-2 same-length returns returns-2)
+lab-to-rgb8-spec = tie.close (tie.spec lab-to-rgb8-answer-requires enum-told threshold-table-requires slice-aggregate-fill-rgb8 fill-rgb8-requires enum-told-2 same-length returns returns-2)

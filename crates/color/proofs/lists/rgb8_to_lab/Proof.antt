@@ -12,8 +12,16 @@ rgb8-to-lab-answer-requires c κs = tt
 enum-told : tie.Need-enum-told
 enum-told c = search needs
 
+decode-table-requires : tie.Need-decode-table-requires
+decode-table-requires c κs = tt
+
+slice-aggregate-fill-lab : tie.Need-slice-aggregate-fill-lab
+slice-aggregate-fill-lab c = search needs
+
 fill-lab-requires : tie.Need-fill-lab-requires
-fill-lab-requires c κs = rgb8-to-lab-room _ _ (sym (c .before .enum-told .given .1) ∙ c .before .before .before .rgb8-to-lab-answer .ensures)
+fill-lab-requires c κs =
+    let d = c .before .before .before in
+    (c .before .before .decode-table .ensures, rgb8-to-lab-room _ _ (sym (d .enum-told .given .1) ∙ d .before .before .rgb8-to-lab-answer .ensures))
 
 enum-told-2 : tie.Need-enum-told-2
 enum-told-2 c = search needs
@@ -24,8 +32,8 @@ same-length c = search needs
 returns : tie.Need-returns
 unfolding rgb8ToLabOut
 returns c =
-    let told = c .before .before .before .before .before .before .rgb8-to-lab-answer .ensures in
-    (told, c .before .before .fill-lab .ensures ∙ wrote _ _ _ (sym (c .before .before .before .before .enum-told .given .1) ∙ told))
+    let told = c .before .before .before .before .before .before .before .before .rgb8-to-lab-answer .ensures in
+    (told, c .before .before .fill-lab .ensures ∙ wrote _ _ _ (sym (c .before .before .before .before .before .before .enum-told .given .1) ∙ told))
 
 returns-2 : tie.Need-returns-2
 unfolding rgb8ToLabOut
@@ -34,4 +42,4 @@ returns-2 c =
     (told, kept _ _ _ _ (sym (c .enum-told2 .given .1) ∙ told))
 
 pub rgb8-to-lab-spec : {M : Type 1} → statement M
-rgb8-to-lab-spec = tie.close (tie.spec rgb8-to-lab-answer-requires enum-told fill-lab-requires enum-told-2 same-length returns returns-2)
+rgb8-to-lab-spec = tie.close (tie.spec rgb8-to-lab-answer-requires enum-told decode-table-requires slice-aggregate-fill-lab fill-lab-requires enum-told-2 same-length returns returns-2)

@@ -1,10 +1,10 @@
--- `color::cielab::rgb8_to_lab_one` meets its contract. Assumes nothing.
+-- `color::cielab::rgb8_to_lab_by` meets its contract. Assumes nothing.
 use lib.Ieee.{ofBits, round}
 use Rattle.base.specs.Doubles.{decimal}
 use Rattle.color.specs.Lab.{xyzFromRgb, rgb8ToLab}
 use borrow.Author.Needs.{needs}
-use Rattle.color.proofs.cielab.rgb8_to_lab_one.Statement.{statement}
-use Rattle.color.proofs.cielab.rgb8_to_lab_one.Tie as tie
+use Rattle.color.proofs.cielab.rgb8_to_lab_by.Statement.{statement}
+use Rattle.color.proofs.cielab.rgb8_to_lab_by.Tie as tie
 
 decoded-requires : tie.Need-decoded-requires
 decoded-requires c κs = search needs
@@ -25,8 +25,8 @@ returns : tie.Need-returns
 unfolding rgb8ToLab xyzFromRgb decimal round ofBits
 returns c = cc
 
-pub rgb8-to-lab-one-spec : {M : Type 1} → statement M
-rgb8-to-lab-one-spec =
+pub rgb8-to-lab-by-spec : {M : Type 1} → statement M
+rgb8-to-lab-by-spec =
     tie.close
     (tie.spec
     decoded-requires

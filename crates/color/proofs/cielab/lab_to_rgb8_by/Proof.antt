@@ -1,12 +1,12 @@
--- `color::cielab::lab_to_rgb8_one` meets its contract. Assumes nothing.
+-- `color::cielab::lab_to_rgb8_by` meets its contract. Assumes nothing.
 use mathlib.Core.Path.{ap, _∙_}
 use lib.Ieee.{ofBits, round, neg}
 use Rattle.base.specs.Doubles.{decimal}
 use Rattle.color.specs.Lab.{rgbFromXyz, matVec}
 use Rattle.color.proofs.Colours.{rgb-is}
 use borrow.Author.Needs.{needs}
-use Rattle.color.proofs.cielab.lab_to_rgb8_one.Statement.{statement}
-use Rattle.color.proofs.cielab.lab_to_rgb8_one.Tie as tie
+use Rattle.color.proofs.cielab.lab_to_rgb8_by.Statement.{statement}
+use Rattle.color.proofs.cielab.lab_to_rgb8_by.Tie as tie
 
 xyz-of-lab-requires : tie.Need-xyz-of-lab-requires
 xyz-of-lab-requires c κs = search needs
@@ -38,8 +38,8 @@ returns c =
     rgb-is _ _ (c .before .before .before .mat-vec .ensures ∙ ap (matVec rgbFromXyz) (c .before .before .before .before .xyz-of-lab .ensures))
     (c .before .before .byte .ensures) (c .before .byte2 .ensures) (c .byte3 .ensures)
 
-pub lab-to-rgb8-one-spec : {M : Type 1} → statement M
-lab-to-rgb8-one-spec =
+pub lab-to-rgb8-by-spec : {M : Type 1} → statement M
+lab-to-rgb8-by-spec =
     tie.close
     (tie.spec
     xyz-of-lab-requires
