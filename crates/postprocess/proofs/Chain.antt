@@ -1,0 +1,394 @@
+-- The steps of an accepted `run`, one after the other: what each may rely on, and that together they are the rule. Assumes nothing.
+use Prim.Native.Nat.{ℕ, _+_, _*_, _≤_, _<_}
+use mathlib.Core.Path.{_≡_, refl, sym, ap, _∙_, subst}
+use mathlib.Core.Bool.{Bool, true, false, _&&_, _||_, cond}
+use mathlib.Core.List.{List, [], _∷_}
+use mathlib.Core.Option.{Option, none, some}
+use native.Mathlib.Nat.{le-refl, le-of-eq}
+use native.Mathlib.Omega.{arith}
+use lib.Dec.{eqb, ltb}
+use lib.IntN.{ℤ, pos}
+use lib.Signed.{leZ}
+use lib.ListN.{length}
+use lib.Ieee.{Float}
+use borrow.Author.Tests.{le-ltb, eq-eqb}
+use Rattle.base.specs.Places.{any}
+use Rattle.base.proofs.Counting.{any-same, left, right}
+use Rattle.base.proofs.Fills.{filled-length}
+use Rattle.rules.specs.declared.Outline.{Outline}
+use Rattle.rules.specs.declared.PostConfig.{PostConfig}
+use Rattle.rules.specs.declared.Facts.{Facts}
+use Rattle.rules.specs.declared.Processing.{Processing}
+use Rattle.rules.specs.declared.Processing.the-variants.{Processed, Refused}
+use Rattle.rules.specs.Sheet.{Sheet, area, sheetOf, over, needed}
+use Rattle.rules.specs.Palette.{Palette, paletteOf, outOfRange, saturate}
+use Rattle.rules.specs.Corners.{trim}
+use Rattle.rules.specs.Outline.{asked, pads, padded, canvas, ring, hasRing, Outlined}
+use Rattle.rules.specs.Run.{Tidied, tidyIf, limitsOf, toned, padAllowed, outlineIf, process}
+use Rattle.rules.specs.Rows.{tooLarge, badPalette, badIndex, noEntry}
+use Rattle.rules.specs.Entries.{factsOf, outlineRefusal, runRefusal, runAnswer, runCells, runPalette}
+use Rattle.rules.proofs.Opacity.{Alike, trans, tidied-alike, cut-alike, pads-same, ring-same, canvas-alike, Shown, line-shown}
+use Rattle.orphans.specs.Entry.{Fit}
+use Rattle.outline.specs.Drawing.{Drew}
+use Rattle.outline.proofs.Refusing.{needed-least, past-3, past-8, not-refused, no-entry}
+use Rattle.postprocess.proofs.Answers.{refused, granted}
+use Rattle.postprocess.proofs.Refusing.{Granted, granting}
+use Rattle.postprocess.proofs.Fronts.{Stands, stands-start, stands-size, stands-sheet, stands-next}
+use Rattle.postprocess.proofs.Indices.{Named, named, row-clear, tidied-named, cut-named}
+use Rattle.postprocess.proofs.Lines.{Lined, lined}
+
+-- ---- saturation keeps the palette's size
+
+toned-count : (kept : Bool) (config : PostConfig) (palette : Palette) → toned kept config palette .count ≡ palette .count
+unfolding toned saturate
+toned-count true config palette = refl
+toned-count false config palette = refl
+
+toned-length : (kept : Bool) (config : PostConfig) (palette : Palette) → 3 * palette .count ≤ length (palette .lab) → length (toned kept config palette .lab) ≡ length (palette .lab)
+unfolding toned saturate
+toned-length true config palette h = refl
+toned-length false config palette h = filled-length (3 * palette .count) _ (palette .lab) h
+
+-- ---- sheets alike have a ring alike
+
+area-same : {s t : Sheet} → Alike s t → area t ≡ area s
+unfolding area
+area-same k = rw (k .height, k .width)
+
+ring-alike : {s t : Sheet} → Alike s t → hasRing t ≡ hasRing s
+unfolding hasRing
+ring-alike {s} {t} k = ap (λ (n : ℕ). any n (ring t)) (area-same k) ∙ any-same (area s) (ring t) (ring s) (λ p h. ring-same k p)
+
+-- ---- the canvas has the needed cells, and at most 514 rows and columns
+
+canvas-area : (b : Bool) (s : Sheet) → area (canvas b s) ≡ needed (s .height) (s .width) b
+unfolding canvas padded area needed
+canvas-area true s = refl
+canvas-area false s = refl
+
+canvas-sides : (b : Bool) (s : Sheet) → s .height ≤ 512 → s .width ≤ 512 → (canvas b s .height ≤ 514) × (canvas b s .width ≤ 514)
+unfolding canvas padded
+canvas-sides true s h w = (omega arith, omega arith)
+canvas-sides false s h w = (omega arith, omega arith)
+
+-- ---- what the lent lists hold after a step: a sheet written over the cells at entry, and a palette
+
+pub record Holds (old : List ℤ) (s : Sheet) (p : Palette) (cells : List ℤ) (h w : ℕ) (lab : List Float) (k : ℕ) : Type 0 where
+  pub stands : Stands old s cells
+  pub sheet : sheetOf cells h w ≡ s
+  pub palette : paletteOf lab k ≡ p
+
+module _ {old : List ℤ} {s : Sheet} {p : Palette} {cells : List ℤ} {h w : ℕ} {lab : List Float} {k : ℕ} (a : Holds old s p cells h w lab k) where
+  -- what is read from the lists is read from the sheet and the palette
+  reads : {A : Type 0} (f : Sheet → Palette → A) → f (sheetOf cells h w) (paletteOf lab k) ≡ f s p
+  reads f = ap (λ (t : Sheet). f t (paletteOf lab k)) (a .sheet) ∙ ap (f s) (a .palette)
+
+  -- a step that keeps the sheet's size
+  keeps : (f : Sheet → Palette → Sheet) {new : List ℤ} → Alike s (f s p) → new ≡ over (f (sheetOf cells h w) (paletteOf lab k) .cells) cells
+      → Holds old (f s p) p new h w lab k
+  unfolding sheetOf
+  keeps f {new} l e =
+      let e′ = e ∙ reads (λ t q. over (f t q .cells) cells) in
+      let n = stands-next (a .stands) e′ (l .full) (le-of-eq (sym (area-same l))) (omega (arith, a .stands .fits, area-same l)) in
+      record {
+        stands = n;
+        sheet = stands-sheet h w n (l .height ∙ sym (ap (λ (t : Sheet). t .height) (a .sheet))) (l .width ∙ sym (ap (λ (t : Sheet). t .width) (a .sheet)));
+        palette = a .palette;
+      }
+
+  -- the sheet lies within the list
+  pub sized : h * w ≤ length cells
+  unfolding sheetOf area
+  sized = let e : h * w ≡ area s = ap area (a .sheet) in omega (arith, a .stands .fits, stands-size (a .stands))
+
+-- ---- a call, and what its steps come to
+
+pub record Call : Type 0 where
+  pub cells : List ℤ
+  pub h : ℕ
+  pub w : ℕ
+  pub lab : List Float
+  pub k : ℕ
+  pub config : PostConfig
+  pub saturated : Bool
+  pub fixed : Bool
+  pub margin : ℤ
+  pub work : ℕ
+
+abbrev pub Refusal : Call → Option ℕ
+Refusal x = runRefusal (x .cells) (x .h) (x .w) (paletteOf (x .lab) (x .k)) (x .config) (x .saturated) (x .fixed) (x .margin) (x .work)
+
+-- the three promises of a call, of its answer, of the cells and of the doubles
+abbrev pub Met : Call → Processing → List ℤ → List Float → Type 0
+Met x answer cells lab =
+    (answer ≡ runAnswer (x .cells) (x .h) (x .w) (paletteOf (x .lab) (x .k)) (x .config) (x .saturated) (x .fixed) (x .margin) (x .work))
+    × ((cells ≡ runCells (x .cells) (x .h) (x .w) (paletteOf (x .lab) (x .k)) (x .config) (x .saturated) (x .fixed) (x .margin) (x .work))
+    × (lab ≡ runPalette (x .cells) (x .h) (x .w) (paletteOf (x .lab) (x .k)) (x .config) (x .saturated) (x .fixed) (x .margin) (x .work)))
+
+-- a call that is refused leaves both lists
+pub met-refused : (x : Call) (n : ℕ) → Refusal x ≡ some n → Met x (Refused n) (x .cells) (x .lab)
+unfolding runAnswer runCells runPalette
+met-refused x n e = (refused _ _ n e, (refused _ _ n e, refused _ _ n e))
+
+module _ (x : Call) where
+  abbrev pub ink : Palette
+  ink = toned (x .saturated || x .fixed) (x .config) (paletteOf (x .lab) (x .k))
+
+  abbrev pub before : Sheet
+  before = sheetOf (x .cells) (x .h) (x .w)
+
+  abbrev on : Bool
+  on = x .config .«remove_orphans»
+
+  abbrev pub first : Sheet
+  first = tidyIf on 5 ink (limitsOf (x .config)) before .sheet
+
+  abbrev pub cut : Sheet
+  cut = cond (x .config .«fix_jaggies») (trim first) first
+
+  abbrev pub line : Outlined
+  line = outlineIf (x .fixed) (x .config) (x .margin) cut ink
+
+  abbrev second : Sheet
+  second = tidyIf (on && asked (x .config .outline)) 1 (line .palette) (limitsOf (x .config)) (line .sheet) .sheet
+
+  abbrev allowed : Bool
+  allowed = padAllowed (x .config) (x .margin)
+
+  abbrev padding : Bool
+  padding = pads allowed (x .config .outline) before
+
+  -- what the lists hold after a step before the outline
+  abbrev pub Held : Sheet → List ℤ → List Float → Type 0
+  Held s cells lab = Holds (x .cells) s ink cells (x .h) (x .w) lab (x .k)
+
+  -- every cell names an entry, if cleaning is on and regions can be small
+  abbrev Known : Sheet → Palette → Type 0
+  Known s p = on ≡ true → leZ (pos 2) (x .config .«orphan_min_region») ≡ true → Named (p .count) (s .cells)
+
+  -- a sheet that can be cleaned
+  record Cleanable (s : Sheet) (p : Palette) : Type 0 where
+    pub rows : s .height ≤ 514
+    pub cols : s .width ≤ 514
+    pub planes : 8 * area s ≤ x .work
+    pub entries : p .count ≤ 256
+    pub doubles : length (p .lab) ≡ 768
+    pub known : Known s p
+
+  fit : {s : Sheet} {p : Palette} {cells : List ℤ} {h w : ℕ} {lab : List Float} {k : ℕ} → Holds (x .cells) s p cells h w lab k → Cleanable s p → on ≡ true
+      → Fit cells h w lab k (x .config .«orphan_min_region») (x .work)
+  unfolding sheetOf area
+  fit {s} {p} {cells} {h} {w} {lab} {k} a c y =
+      let e : h * w ≡ s .height * s .width = ap area (a .sheet) in
+      record {
+        rows = subst (λ (n : ℕ). n ≤ 514) (sym (ap (λ (t : Sheet). t .height) (a .sheet))) (c .rows);
+        cols = subst (λ (n : ℕ). n ≤ 514) (sym (ap (λ (t : Sheet). t .width) (a .sheet))) (c .cols);
+        reads = sized a;
+        planes = omega (arith, e, c .planes);
+        entries = subst (λ (n : ℕ). n ≤ 256) (sym (ap (λ (q : Palette). q .count) (a .palette))) (c .entries);
+        doubles = ap (λ (q : Palette). length (q .lab)) (a .palette) ∙ c .doubles;
+        known = reads a (λ t q. badIndex true (x .config .«orphan_min_region») q t .applies) ∙ row-clear true (x .config .«orphan_min_region») p s (λ z l. c .known y l);
+      }
+
+  -- ---- the steps of a call that is accepted
+
+  module _ (ok : Refusal x ≡ none) where
+    g : Granted (x .cells) (x .h) (x .w) (paletteOf (x .lab) (x .k)) (x .config) (x .saturated) (x .fixed) (x .margin) (x .work)
+    g = granting (x .cells) (x .h) (x .w) (paletteOf (x .lab) (x .k)) (x .config) (x .saturated) (x .fixed) (x .margin) (x .work) ok
+
+    pub in-doubles : (3 * x .k ≤ length (x .lab)) × (x .k ≤ 256)
+    in-doubles = (omega (arith, g .few, g .full), g .few)
+
+    start : Stands (x .cells) before (x .cells)
+    start = stands-start (x .cells) (x .h) (x .w) (omega (arith, g .roomy .lent, needed-least (x .h) (x .w) padding))
+
+    ink-count : ink .count ≡ x .k
+    ink-count = toned-count (x .saturated || x .fixed) (x .config) (paletteOf (x .lab) (x .k))
+
+    ink-length : length (ink .lab) ≡ 768
+    ink-length = toned-length (x .saturated || x .fixed) (x .config) (paletteOf (x .lab) (x .k)) (in-doubles .0) ∙ g .full
+
+    -- saturation
+    pub toned-holds : {kept : Bool} {lab : List Float} → kept ≡ (x .saturated || x .fixed) → lab ≡ toned kept (x .config) (paletteOf (x .lab) (x .k)) .lab → Held before (x .cells) lab
+    toned-holds e f =
+        let l = f ∙ ap (λ (b : Bool). toned b (x .config) (paletteOf (x .lab) (x .k)) .lab) e in
+        record { stands = start; sheet = refl; palette = λ i. record { lab = l i; count = sym ink-count i } }
+
+    -- the first cleaning
+    known-before : Known before ink
+    known-before y l =
+        subst (λ (n : ℕ). Named n (before .cells)) (sym ink-count)
+        (named on (x .config .«orphan_min_region») (paletteOf (x .lab) (x .k)) before (start .full) y l (g .indices))
+
+    cleanable-before : Cleanable before ink
+    unfolding sheetOf area
+    cleanable-before =
+        record {
+          rows = omega (arith, g .roomy .high);
+          cols = omega (arith, g .roomy .wide);
+          planes = omega (arith, g .roomy .free, needed-least (x .h) (x .w) padding);
+          entries = omega (arith, g .few, ink-count);
+          doubles = ink-length;
+          known = known-before;
+        }
+
+    pub first-fit : {cells : List ℤ} {lab : List Float} → Held before cells lab → on ≡ true → Fit cells (x .h) (x .w) lab (x .k) (x .config .«orphan_min_region») (x .work)
+    first-fit a = fit a cleanable-before
+
+    alike-first : Alike before first
+    alike-first = tidied-alike on 5 ink (limitsOf (x .config)) before (start .full)
+
+    pub first-passes : {cells : List ℤ} {lab : List Float} {n : ℕ} → Held before cells lab
+        → n ≡ tidyIf on 5 (paletteOf lab (x .k)) (limitsOf (x .config)) (sheetOf cells (x .h) (x .w)) .passes → n ≡ tidyIf on 5 ink (limitsOf (x .config)) before .passes
+    first-passes a e = e ∙ reads a (λ t q. tidyIf on 5 q (limitsOf (x .config)) t .passes)
+
+    pub first-holds : {cells new : List ℤ} {lab : List Float} → Held before cells lab
+        → new ≡ over (tidyIf on 5 (paletteOf lab (x .k)) (limitsOf (x .config)) (sheetOf cells (x .h) (x .w)) .sheet .cells) cells → Held first new lab
+    first-holds a = keeps a (λ t q. tidyIf on 5 q (limitsOf (x .config)) t .sheet) alike-first
+
+    -- corners
+    pub trim-room : {s : Sheet} {cells : List ℤ} {lab : List Float} {room : ℕ} → Held s cells lab → room ≡ x .work
+        → (x .h ≤ 512) × (x .w ≤ 512) × (x .h * x .w ≤ length cells) × (8 * (x .h * x .w) ≤ room)
+    trim-room a e = (g .roomy .high, g .roomy .wide, sized a, omega (arith, e, g .roomy .free, needed-least (x .h) (x .w) padding))
+
+    alike-cut : Alike before cut
+    alike-cut = trans alike-first (cut-alike (x .config .«fix_jaggies») first (alike-first .full))
+
+    pub cut-holds : {cells new : List ℤ} {lab : List Float} → Held first cells lab
+        → new ≡ over (cond (x .config .«fix_jaggies») (trim (sheetOf cells (x .h) (x .w))) (sheetOf cells (x .h) (x .w)) .cells) cells → Held cut new lab
+    cut-holds a = keeps a (λ t q. cond (x .config .«fix_jaggies») (trim t) t) (cut-alike (x .config .«fix_jaggies») first (alike-first .full))
+
+    -- the outline
+    pads-cut : pads allowed (x .config .outline) cut ≡ padding
+    pads-cut = pads-same alike-cut allowed (x .config .outline)
+
+    canvas-cut : Alike (canvas padding before) (canvas (pads allowed (x .config .outline) cut) cut)
+    canvas-cut = subst (λ (b : Bool). Alike (canvas padding before) (canvas b cut)) (sym pads-cut) (canvas-alike alike-cut (start .full) padding)
+
+    entry-cut : noEntry (x .fixed) (x .config .outline) ink (canvas (pads allowed (x .config .outline) cut) cut) .applies ≡ false
+    unfolding noEntry
+    entry-cut = rw (ring-alike canvas-cut, ink-count) (g .entry)
+
+    palette-good : badPalette ink .applies ≡ false
+    unfolding badPalette
+    palette-good = rw (le-ltb 256 (ink .count) (omega (arith, g .few, ink-count)), eq-eqb (length (ink .lab)) 768 ink-length)
+
+    sides-good : tooLarge (x .h) (x .w) .applies ≡ false
+    unfolding tooLarge
+    sides-good = rw (le-ltb 512 (x .h) (g .roomy .high), le-ltb 512 (x .w) (g .roomy .wide))
+
+    drawable : {cells : List ℤ} {lab : List Float} → Held cut cells lab → asked (x .config .outline) ≡ true
+        → outlineRefusal cells (x .h) (x .w) (paletteOf lab (x .k)) (x .config .outline) allowed (x .fixed) (x .work) ≡ none
+    unfolding noEntry
+    drawable {cells} {lab} a y =
+        let how = x .config .outline in
+        let s = sheetOf cells (x .h) (x .w) in
+        let p = paletteOf lab (x .k) in
+        let n = reads a (λ t q. needed (x .h) (x .w) (pads allowed how t)) ∙ ap (needed (x .h) (x .w)) pads-cut in
+        not-refused cells (x .h) (x .w) p how allowed (x .fixed) (x .work)
+        (sym (past-3 (x .h) (x .w) (length cells) (x .work) (needed (x .h) (x .w) (pads allowed how s)) sides-good
+        (omega (arith, n, g .roomy .lent, stands-size (a .stands))) (omega (arith, n, g .roomy .free))))
+        (sym (past-8 p how (x .fixed) (canvas (pads allowed how s) s) (reads a (λ t q. badPalette q .applies) ∙ palette-good) (reads a (λ t q. outOfRange q) ∙ g .tones) y (g .darkening)
+        (reads a (λ t q. noEntry (x .fixed) how q (canvas (pads allowed how t) t) .applies) ∙ entry-cut)))
+
+    pub never-refused : {cells : List ℤ} {lab : List Float} {margin : ℤ} {room : ℕ} → Held cut cells lab → margin ≡ x .margin → room ≡ x .work → asked (x .config .outline) ≡ true
+        → outlineRefusal cells (x .h) (x .w) (paletteOf lab (x .k)) (x .config .outline) (padAllowed (x .config) margin) (x .fixed) room ≡ none
+    never-refused {cells} {lab} {margin} a e f y =
+        ap (λ (n : ℕ). outlineRefusal cells (x .h) (x .w) (paletteOf lab (x .k)) (x .config .outline) (padAllowed (x .config) margin) (x .fixed) n) f
+        ∙ ap (λ (m : ℤ). outlineRefusal cells (x .h) (x .w) (paletteOf lab (x .k)) (x .config .outline) (padAllowed (x .config) m) (x .fixed) (x .work)) e
+        ∙ drawable a y
+
+    known-cut : Known cut ink
+    known-cut y l =
+        cut-named first (tidied-named on 5 ink (limitsOf (x .config)) before (start .full) (known-before y l)) (x .config .«fix_jaggies»)
+
+    lined-cut : Lined ink cut line
+    lined-cut = lined (x .fixed) (x .config) (x .margin) cut ink (omega (arith, g .few, ink-count)) entry-cut
+
+    shown-cut : Shown (asked (x .config .outline)) (canvas padding cut) (line .sheet)
+    shown-cut =
+        subst (λ (b : Bool). Shown (asked (x .config .outline)) (canvas b cut) (line .sheet)) pads-cut (line-shown (x .fixed) (x .config) (x .margin) cut ink (alike-cut .full))
+
+    cut-area : area cut ≡ x .h * x .w
+    unfolding area sheetOf
+    cut-area = rw (alike-cut .height, alike-cut .width)
+
+    line-area : area (line .sheet) ≡ needed (x .h) (x .w) padding
+    unfolding area sheetOf
+    line-area = rw (shown-cut .height, shown-cut .width) (canvas-area padding cut ∙ rw (alike-cut .height, alike-cut .width))
+
+    -- facts of an outlined sheet
+    abbrev pub Told : Facts → Type 0
+    Told facts = facts ≡ factsOf (line .sheet) (line .palette) (line .index) (line .clipped)
+
+    module _ {cells new : List ℤ} {lab doubles : List Float} {facts : Facts} {margin : ℤ} (a : Held cut cells lab) (e : margin ≡ x .margin)
+        (d : Drew (outlineIf (x .fixed) (x .config) margin (sheetOf cells (x .h) (x .w)) (paletteOf lab (x .k))) cells facts new doubles) where
+      drew : Drew line cells facts new doubles
+      drew =
+          subst (λ (o : Outlined). Drew o cells facts new doubles)
+          (reads a (outlineIf (x .fixed) (x .config) margin) ∙ ap (λ (m : ℤ). outlineIf (x .fixed) (x .config) m cut ink) e) d
+
+      pub line-told : Told facts
+      line-told = drew .told
+
+      pub line-holds : Holds (x .cells) (line .sheet) (line .palette) new (facts .height) (facts .width) doubles (facts .colours)
+      unfolding factsOf
+      line-holds =
+          let n = stands-next (a .stands) (drew .cells) (shown-cut .full) (omega (arith, line-area, cut-area, needed-least (x .h) (x .w) padding)) (omega (arith, line-area, g .roomy .lent)) in
+          record {
+            stands = n;
+            sheet = stands-sheet (facts .height) (facts .width) n (sym (ap (λ (f : Facts). f .height) line-told)) (sym (ap (λ (f : Facts). f .width) line-told));
+            palette = λ i. record { lab = drew .doubles i; count = line-told i .colours };
+          }
+
+    -- the second cleaning
+    cleanable-line : Cleanable (line .sheet) (line .palette)
+    unfolding sheetOf
+    cleanable-line =
+        let h : cut .height ≤ 512 = subst (λ (n : ℕ). n ≤ 512) (sym (alike-cut .height)) (g .roomy .high) in
+        let w : cut .width ≤ 512 = subst (λ (n : ℕ). n ≤ 512) (sym (alike-cut .width)) (g .roomy .wide) in
+        let k = canvas-sides padding cut h w in
+        record {
+          rows = subst (λ (n : ℕ). n ≤ 514) (sym (shown-cut .height)) (k .0);
+          cols = subst (λ (n : ℕ). n ≤ 514) (sym (shown-cut .width)) (k .1);
+          planes = omega (arith, line-area, g .roomy .free);
+          entries = lined-cut .few;
+          doubles = lined-cut .full ∙ ink-length;
+          known = λ y l. lined-cut .named (known-cut y l);
+        }
+
+    alike-second : Alike (line .sheet) second
+    alike-second = tidied-alike (on && asked (x .config .outline)) 1 (line .palette) (limitsOf (x .config)) (line .sheet) (shown-cut .full)
+
+    module _ {cells : List ℤ} {h w : ℕ} {lab : List Float} {k : ℕ} (a : Holds (x .cells) (line .sheet) (line .palette) cells h w lab k) {after : Bool}
+        (told : after ≡ (on && asked (x .config .outline))) where
+      pub second-fit : {room : ℕ} → room ≡ x .work → after ≡ true → Fit cells h w lab k (x .config .«orphan_min_region») room
+      second-fit e y = rw e (fit a cleanable-line (left on (asked (x .config .outline)) (sym told ∙ y)))
+
+      -- the palette's doubles are as many as they were
+      pub same-doubles : length lab ≡ length (x .lab)
+      same-doubles = ap (λ (q : Palette). length (q .lab)) (a .palette) ∙ cleanable-line .doubles ∙ sym (g .full)
+
+      abbrev redo : Bool → Sheet → Palette → Tidied
+      redo b t q = tidyIf b 1 q (limitsOf (x .config)) t
+
+      told-second : {facts : Facts} → Told facts → facts ≡ factsOf second (line .palette) (line .index) (line .clipped)
+      unfolding factsOf
+      told-second is =
+          is ∙ (λ i. record {
+            height = sym (alike-second .height) i;
+            width = sym (alike-second .width) i;
+            colours = line .palette .count;
+            «outline_index» = line .index;
+            «outline_clipped» = line .clipped;
+          })
+
+      -- all of it is the rule
+      pub met-processed : {facts : Facts} {n m : ℕ} {new : List ℤ} → n ≡ tidyIf on 5 ink (limitsOf (x .config)) before .passes → Told facts
+          → m ≡ redo after (sheetOf cells h w) (paletteOf lab k) .passes → new ≡ over (redo after (sheetOf cells h w) (paletteOf lab k) .sheet .cells) cells → Met x (Processed facts n m) new lab
+      unfolding runAnswer runCells runPalette process
+      met-processed {facts} {n} {m} {new} once is more e =
+          let twice = more ∙ reads a (λ t q. redo after t q .passes) ∙ ap (λ (b : Bool). redo b (line .sheet) (line .palette) .passes) told in
+          let last = keeps a (λ t q. redo (on && asked (x .config .outline)) t q .sheet) alike-second
+          (e ∙ ap (λ (b : Bool). over (redo b (sheetOf cells h w) (paletteOf lab k) .sheet .cells) cells) told) in
+          ((λ i. Processed (told-second is i) (once i) (twice i)) ∙ granted _ _ ok, (last .stands .is ∙ granted _ _ ok, ap (λ (q : Palette). q .lab) (a .palette) ∙ granted _ _ ok))

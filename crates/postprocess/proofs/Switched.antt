@@ -1,0 +1,94 @@
+-- The steps of `run` that are made as they are switched on: what each leaves, made and not made. Assumes nothing.
+use Prim.Native.Nat.{ℕ, _*_, _≤_}
+use mathlib.Core.Path.{_≡_, refl, sym, ap, _∙_}
+use mathlib.Core.Bool.{Bool, true, false, not, cond}
+use mathlib.Core.List.{List}
+use mathlib.Core.Option.{none, some}
+use native.Mathlib.Omega.{arith}
+use lib.IntN.{ℤ}
+use lib.Ieee.{Float}
+use lib.ListN.{length}
+use borrow.Author.Tests.{not-true, not-false}
+use Rattle.base.specs.Refusals.{unless}
+use Rattle.rules.specs.declared.PostConfig.{PostConfig}
+use Rattle.rules.specs.declared.Facts.{Facts}
+use Rattle.rules.specs.declared.LineIndex.the-variants.{Nothing}
+use Rattle.rules.specs.declared.Outlining.{Outlining}
+use Rattle.rules.specs.declared.Outlining.the-variants.{Drawn, Refused}
+use Rattle.rules.specs.Sheet.{sheetOf, over}
+use Rattle.rules.specs.Palette.{Palette, saturate}
+use Rattle.rules.specs.Corners.{trim}
+use Rattle.rules.specs.Outline.{asked, outline}
+use Rattle.rules.specs.Run.{Limits, tidy, tidyIf, toned, padAllowed, outlineIf}
+use Rattle.rules.specs.Entries.{factsOf, outlineRefusal, outlineAnswer, outlineCells, outlinePalette}
+use Rattle.outline.specs.Drawing.{Drew}
+use Rattle.postprocess.proofs.Fronts.{stands-start}
+
+-- ---- saturation
+
+module _ (kept : Bool) (config : PostConfig) (palette : Palette) where
+  pub tones-new : not kept ≡ true → saturate (config .«saturation_beta») palette .lab ≡ toned kept config palette .lab
+  unfolding toned
+  tones-new y = rw (not-true kept y)
+
+  pub tones-kept : not kept ≡ false → palette .lab ≡ toned kept config palette .lab
+  unfolding toned
+  tones-kept z = rw (not-false kept z)
+
+-- ---- cleaning and corners, on the sheet at the front of a lent list
+
+module _ (on : Bool) (l : List ℤ) (h w : ℕ) where
+  pub trims : {new : List ℤ} → on ≡ true → new ≡ over (trim (sheetOf l h w) .cells) l → new ≡ over (cond on (trim (sheetOf l h w)) (sheetOf l h w) .cells) l
+  trims y e = rw y e
+
+  -- a step that is not made leaves the list
+  pub untrimmed : h * w ≤ length l → on ≡ false → l ≡ over (cond on (trim (sheetOf l h w)) (sheetOf l h w) .cells) l
+  untrimmed fits z = rw z (stands-start l h w fits .is)
+
+  module _ (n : ℕ) (palette : Palette) (limits : Limits) where
+    -- the passes that repainted, and the list at exit
+    abbrev Tidied : ℕ → List ℤ → Type 0
+    Tidied passes new = (passes ≡ tidyIf on n palette limits (sheetOf l h w) .passes) × (new ≡ over (tidyIf on n palette limits (sheetOf l h w) .sheet .cells) l)
+
+    pub tidies : {passes : ℕ} {new : List ℤ} → not on ≡ false → passes ≡ tidy n palette limits (sheetOf l h w) .passes
+        → new ≡ over (tidy n palette limits (sheetOf l h w) .sheet .cells) l → Tidied passes new
+    unfolding tidyIf
+    tidies z e f = rw (not-false on z) (e, f)
+
+    pub untidied : h * w ≤ length l → not on ≡ true → Tidied 0 l
+    unfolding tidyIf
+    untidied fits y = rw (not-true on y) (refl, stands-start l h w fits .is)
+
+-- ---- the outline
+
+module _ (fixed : Bool) (config : PostConfig) (margin : ℤ) (l : List ℤ) (h w : ℕ) (palette : Palette) where
+  -- facts, cells and doubles are those of the outline, or of none
+  abbrev Line : Facts → List ℤ → List Float → Type 0
+  Line facts new lab = Drew (outlineIf fixed config margin (sheetOf l h w) palette) l facts new lab
+
+  -- none is asked for
+  pub unlined : {facts : Facts} → h * w ≤ length l → asked (config .outline) ≡ false
+      → facts ≡ record { height = h; width = w; colours = palette .count; «outline_index» = Nothing; «outline_clipped» = false } → Line facts l (palette .lab)
+  unfolding outlineIf factsOf sheetOf
+  unlined fits z e = rw z (record { told = e; cells = stands-start l h w fits .is; doubles = refl })
+
+  -- the call of an outline that is asked for, and that no row refuses
+  module _ (work : ℕ) (allowed : Bool) (told : allowed ≡ padAllowed config margin)
+      (ready : outlineRefusal l h w palette (config .outline) (padAllowed config margin) fixed work ≡ none) {answer : Outlining}
+      (is : answer ≡ outlineAnswer l h w palette (config .outline) allowed fixed work) where
+    granted : outlineRefusal l h w palette (config .outline) allowed fixed work ≡ none
+    granted = ap (λ (b : Bool). outlineRefusal l h w palette (config .outline) b fixed work) told ∙ ready
+
+    answered : answer ≡ Drawn (let o = outline allowed fixed (config .outline) (sheetOf l h w) palette in factsOf (o .sheet) (o .palette) (o .index) (o .clipped))
+    unfolding outlineAnswer unless
+    answered = rw granted at is
+
+    pub never-refused : (n : ℕ) → answer ≡ Refused n → ⊥
+    never-refused n e = let q = sym answered ∙ e in let z : _≡_ {A = ℕ} 0 1 = cc in omega arith
+
+    pub lines : {facts : Facts} {new : List ℤ} {lab : List Float} → asked (config .outline) ≡ true → answer ≡ Drawn facts
+        → new ≡ outlineCells l h w palette (config .outline) allowed fixed work → lab ≡ outlinePalette l h w palette (config .outline) allowed fixed work → Line facts new lab
+    unfolding outlineCells outlinePalette unless outlineIf
+    lines y e f g =
+        let q = sym answered ∙ e in
+        rw (y, sym told) (record { told = cc; cells = rw granted at f; doubles = rw granted at g })
