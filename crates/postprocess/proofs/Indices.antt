@@ -1,7 +1,7 @@
 -- The steps of `run` keep every cell's index among the palette's entries. Assumes nothing.
 use Prim.Native.Nat.{ℕ, zero, suc, _+_, _-_, _*_, _/_, _%_, _≤_, _<_}
-use mathlib.Core.Path.{_≡_, refl, sym, ap, _∙_, subst}
-use mathlib.Core.Bool.{Bool, true, false, not, _&&_, _||_, cond}
+use mathlib.Core.Path.{_≡_, refl, ap, _∙_}
+use mathlib.Core.Bool.{Bool, true, false, _&&_, _||_, cond}
 use mathlib.Core.List.{List, [], _∷_}
 use mathlib.Core.Option.{Option, none, some}
 use native.Mathlib.Decide.{decLt}
@@ -15,7 +15,7 @@ use Rattle.base.specs.Places.{table, any}
 use Rattle.base.proofs.Counting.{case, clash, left, right, no-leb, any-no, any-yes, table-at, table-length}
 use Rattle.rules.specs.Sheet.{Sheet, area}
 use Rattle.rules.specs.Palette.{Palette}
-use Rattle.rules.specs.Regions.{Symmetric, at, Joined, here}
+use Rattle.rules.specs.Regions.{Symmetric, at, here}
 use Rattle.rules.specs.Pass.{Rule, State, fates, pass, repaints, moves, fresh, clean}
 use Rattle.rules.specs.Grid.{stepTo}
 use Rattle.rules.specs.Corners.{Corner, corners, minusOne, opposite, isCorner, trimmedBy, trimmed, trim}
@@ -23,7 +23,7 @@ use Rattle.rules.specs.Outline.{paddedAt, padded, canvas, ring, inked}
 use Rattle.rules.specs.Run.{Limits, ruleOn, tidy, tidyIf}
 use Rattle.rules.specs.Rows.{badIndex}
 use Rattle.rules.proofs.Grids.{eight-symmetric}
-use Rattle.rules.proofs.Passes.{pass-length, Repainted, repainted, unpainted-kept}
+use Rattle.rules.proofs.Passes.{pass-length, repainted, unpainted-kept}
 use Rattle.rules.proofs.Runs.{clean-go, clean-stop}
 
 -- every cell names an entry below k, or is transparent

@@ -111,51 +111,36 @@ module _ (a : Call) where
         unfolding filling refusal
         accepted z = granted _ _ (past-index ∙ row-pass entryRow [] z)
 
--- ---- what an accepted call may rely on
-
-module _ (cells : List ℤ) (h w : ℕ) (palette : Palette) (config : PostConfig) (saturated fixed : Bool) (margin : ℤ) (work : ℕ) where
-  abbrev call : Call
-  call =
-      record {
-        cells = cells;
-        h = h;
-        w = w;
-        palette = palette;
-        config = config;
-        saturated = saturated;
-        fixed = fixed;
-        margin = margin;
-        work = work;
-      }
+  -- ---- what an accepted call may rely on
 
   pub record Granted : Type 0 where
-    pub roomy : Roomy (length cells) work h w (padding call)
-    pub few : palette .count ≤ 256
-    pub full : length (palette .lab) ≡ 768
-    pub darkening : badDarkening (config .outline) ≡ false
-    pub tones : outOfRange (toned (saturated || fixed) config palette) ≡ false
-    pub indices : indexRow call .applies ≡ false
-    pub entry : entryRow call .applies ≡ false
+    pub roomy : Roomy (length (a .cells)) (a .work) (a .h) (a .w) padding
+    pub few : a .palette .count ≤ 256
+    pub full : length (a .palette .lab) ≡ 768
+    pub darkening : badDarkening (a .config .outline) ≡ false
+    pub tones : outOfRange (toned (a .saturated || a .fixed) (a .config) (a .palette)) ≡ false
+    pub indices : indexRow .applies ≡ false
+    pub entry : entryRow .applies ≡ false
 
-  pub granting : judged call ≡ none → Granted
+  pub granting : judged ≡ none → Granted
   unfolding runRefusal tooShort cramped badConfig badSetting
   granting e =
-      let a = rows-none _ _ e in
-      let b = rows-none _ _ (a .1) in
+      let b = rows-none _ _ e in
       let c = rows-none _ _ (b .1) in
       let d = rows-none _ _ (c .1) in
-      let f = rows-none _ _ (rows-none _ _ (d .1) .1) in
-      let g = rows-none _ _ (f .1) in
+      let f = rows-none _ _ (d .1) in
+      let g = rows-none _ _ (rows-none _ _ (f .1) .1) in
       let i = rows-none _ _ (g .1) in
-      let s = not-large h w (a .0) in
-      let p = good-palette palette (d .0) in
-      let t = neither _ (outOfRange (toned (saturated || fixed) config palette)) (f .0) in
+      let j = rows-none _ _ (i .1) in
+      let s = not-large (a .h) (a .w) (b .0) in
+      let p = good-palette (a .palette) (f .0) in
+      let t = neither _ (outOfRange (toned (a .saturated || a .fixed) (a .config) (a .palette))) (g .0) in
       record {
-        roomy = record { high = s .0; wide = s .1; lent = ltb-false _ _ (b .0); free = ltb-false _ _ (c .0) };
+        roomy = record { high = s .0; wide = s .1; lent = ltb-false _ _ (c .0); free = ltb-false _ _ (d .0) };
         few = p .0;
         full = p .1;
-        darkening = neither (not (between 0 16 (config .«saturation_beta»)) || not (between 0 1024 (config .«orphan_max_delta»))) (badDarkening (config .outline)) (t .0) .1;
+        darkening = neither (not (between 0 16 (a .config .«saturation_beta»)) || not (between 0 1024 (a .config .«orphan_max_delta»))) (badDarkening (a .config .outline)) (t .0) .1;
         tones = t .1;
-        indices = g .0;
-        entry = i .0;
+        indices = i .0;
+        entry = j .0;
       }

@@ -1,9 +1,9 @@
 -- The steps of `run` that are made as they are switched on: what each leaves, made and not made. Assumes nothing.
 use Prim.Native.Nat.{ℕ, _*_, _≤_}
-use mathlib.Core.Path.{_≡_, refl, sym, ap, _∙_}
-use mathlib.Core.Bool.{Bool, true, false, not, cond}
+use mathlib.Core.Path.{_≡_, refl, sym, _∙_}
+use mathlib.Core.Bool.{Bool, true, false, not, _&&_, cond}
 use mathlib.Core.List.{List}
-use mathlib.Core.Option.{none, some}
+use mathlib.Core.Option.{none}
 use native.Mathlib.Omega.{arith}
 use lib.IntN.{ℤ}
 use lib.Ieee.{Float}
@@ -35,60 +35,72 @@ module _ (kept : Bool) (config : PostConfig) (palette : Palette) where
   unfolding toned
   tones-kept z = rw (not-false kept z)
 
--- ---- cleaning and corners, on the sheet at the front of a lent list
+-- ---- cleaning and corners, on the sheet at the front of a lent list: a step that is not made leaves the list
 
-module _ (on : Bool) (l : List ℤ) (h w : ℕ) where
-  pub trims : {new : List ℤ} → on ≡ true → new ≡ over (trim (sheetOf l h w) .cells) l → new ≡ over (cond on (trim (sheetOf l h w)) (sheetOf l h w) .cells) l
-  trims y e = rw y e
+asked-and : (on asked : Bool) → asked ≡ true → (on && asked) ≡ on
+asked-and true asked y = y
+asked-and false asked y = refl
 
-  -- a step that is not made leaves the list
-  pub untrimmed : h * w ≤ length l → on ≡ false → l ≡ over (cond on (trim (sheetOf l h w)) (sheetOf l h w) .cells) l
-  untrimmed fits z = rw z (stands-start l h w fits .is)
+unasked-and : (on asked : Bool) → asked ≡ false → (on && asked) ≡ false
+unasked-and true asked z = z
+unasked-and false asked z = refl
 
-  module _ (n : ℕ) (palette : Palette) (limits : Limits) where
+module _ (l : List ℤ) (h w : ℕ) where
+  pub trims : (on : Bool) {new : List ℤ} → on ≡ true → new ≡ over (trim (sheetOf l h w) .cells) l → new ≡ over (cond on (trim (sheetOf l h w)) (sheetOf l h w) .cells) l
+  trims on y e = rw y e
+
+  pub untrimmed : (on : Bool) → h * w ≤ length l → on ≡ false → l ≡ over (cond on (trim (sheetOf l h w)) (sheetOf l h w) .cells) l
+  untrimmed on fits z = rw z (stands-start l h w fits .is)
+
+  module _ (n : ℕ) (palette : Palette) (limits : Limits) (on : Bool) where
     -- the passes that repainted, and the list at exit
-    abbrev Tidied : ℕ → List ℤ → Type 0
-    Tidied passes new = (passes ≡ tidyIf on n palette limits (sheetOf l h w) .passes) × (new ≡ over (tidyIf on n palette limits (sheetOf l h w) .sheet .cells) l)
+    abbrev Tidied : Bool → ℕ → List ℤ → Type 0
+    Tidied b passes new = (passes ≡ tidyIf b n palette limits (sheetOf l h w) .passes) × (new ≡ over (tidyIf b n palette limits (sheetOf l h w) .sheet .cells) l)
 
     pub tidies : {passes : ℕ} {new : List ℤ} → not on ≡ false → passes ≡ tidy n palette limits (sheetOf l h w) .passes
-        → new ≡ over (tidy n palette limits (sheetOf l h w) .sheet .cells) l → Tidied passes new
+        → new ≡ over (tidy n palette limits (sheetOf l h w) .sheet .cells) l → Tidied on passes new
     unfolding tidyIf
     tidies z e f = rw (not-false on z) (e, f)
 
-    pub untidied : h * w ≤ length l → not on ≡ true → Tidied 0 l
+    pub untidied : h * w ≤ length l → on ≡ false → Tidied on 0 l
     unfolding tidyIf
-    untidied fits y = rw (not-true on y) (refl, stands-start l h w fits .is)
+    untidied fits z = rw z (refl, stands-start l h w fits .is)
+
+    -- after an outline call
+    module _ (asked : Bool) where
+      pub tidies-after : {passes : ℕ} {new : List ℤ} → asked ≡ true → Tidied on passes new → Tidied (on && asked) passes new
+      tidies-after y t = rw (asked-and on asked y) t
+
+      pub untidied-after : h * w ≤ length l → asked ≡ false → Tidied (on && asked) 0 l
+      unfolding tidyIf
+      untidied-after fits z = rw (unasked-and on asked z) (refl, stands-start l h w fits .is)
 
 -- ---- the outline
 
-module _ (fixed : Bool) (config : PostConfig) (margin : ℤ) (l : List ℤ) (h w : ℕ) (palette : Palette) where
-  -- facts, cells and doubles are those of the outline, or of none
+module _ (fixed : Bool) (config : PostConfig) (l : List ℤ) (h w : ℕ) (palette : Palette) (allowed : Bool) where
+  -- facts, cells and doubles are those of the outline, or of none, for every margin that allows padding so
   abbrev Line : Facts → List ℤ → List Float → Type 0
-  Line facts new lab = Drew (outlineIf fixed config margin (sheetOf l h w) palette) l facts new lab
+  Line facts new lab = (margin : ℤ) → allowed ≡ padAllowed config margin → Drew (outlineIf fixed config margin (sheetOf l h w) palette) l facts new lab
 
   -- none is asked for
   pub unlined : {facts : Facts} → h * w ≤ length l → asked (config .outline) ≡ false
       → facts ≡ record { height = h; width = w; colours = palette .count; «outline_index» = Nothing; «outline_clipped» = false } → Line facts l (palette .lab)
   unfolding outlineIf factsOf sheetOf
-  unlined fits z e = rw z (record { told = e; cells = stands-start l h w fits .is; doubles = refl })
+  unlined fits z e margin told = rw z (record { told = e; cells = stands-start l h w fits .is; doubles = refl })
 
   -- the call of an outline that is asked for, and that no row refuses
-  module _ (work : ℕ) (allowed : Bool) (told : allowed ≡ padAllowed config margin)
-      (ready : outlineRefusal l h w palette (config .outline) (padAllowed config margin) fixed work ≡ none) {answer : Outlining}
+  module _ (work : ℕ) (ready : outlineRefusal l h w palette (config .outline) allowed fixed work ≡ none) {answer : Outlining}
       (is : answer ≡ outlineAnswer l h w palette (config .outline) allowed fixed work) where
-    granted : outlineRefusal l h w palette (config .outline) allowed fixed work ≡ none
-    granted = ap (λ (b : Bool). outlineRefusal l h w palette (config .outline) b fixed work) told ∙ ready
-
     answered : answer ≡ Drawn (let o = outline allowed fixed (config .outline) (sheetOf l h w) palette in factsOf (o .sheet) (o .palette) (o .index) (o .clipped))
     unfolding outlineAnswer unless
-    answered = rw granted at is
+    answered = rw ready at is
 
-    pub never-refused : (n : ℕ) → answer ≡ Refused n → ⊥
-    never-refused n e = let q = sym answered ∙ e in let z : _≡_ {A = ℕ} 0 1 = cc in omega arith
+    pub not-refused : (n : ℕ) → answer ≡ Refused n → ⊥
+    not-refused n e = let q = sym answered ∙ e in let z : _≡_ {A = ℕ} 0 1 = cc in omega arith
 
     pub lines : {facts : Facts} {new : List ℤ} {lab : List Float} → asked (config .outline) ≡ true → answer ≡ Drawn facts
         → new ≡ outlineCells l h w palette (config .outline) allowed fixed work → lab ≡ outlinePalette l h w palette (config .outline) allowed fixed work → Line facts new lab
     unfolding outlineCells outlinePalette unless outlineIf
-    lines y e f g =
+    lines y e f g margin told =
         let q = sym answered ∙ e in
-        rw (y, sym told) (record { told = cc; cells = rw granted at f; doubles = rw granted at g })
+        rw (y, sym told) (record { told = cc; cells = rw ready at f; doubles = rw ready at g })

@@ -4,11 +4,12 @@ pub mod saturation;
 pub mod steps;
 
 use crate::rows::kept;
+use crate::rows::pad_allowed;
 use crate::rows::run_refusal;
 use crate::saturation::saturate;
 use crate::saturation::too_vivid;
-use crate::steps::again;
 use crate::steps::outline_if;
+use crate::steps::tidy_again;
 use crate::steps::tidy_if;
 use crate::steps::tone_unless;
 use crate::steps::trim_if;
@@ -19,11 +20,10 @@ use checks::between;
 use rules::PostConfig;
 use rules::Processing;
 ghost use mathlib.Core.Path.{_≡_};
-ghost use mathlib.Core.Option.{none};
 ghost use Prim.Native.Nat.{_*_, _≤_};
 ghost use lib.ListN.{length};
 ghost use Rattle.rules.specs.Palette.{paletteOf};
-ghost use Rattle.rules.specs.Entries.{badSaturation, saturationAnswer, saturationPalette, runRefusal, runAnswer, runCells, runPalette};
+ghost use Rattle.rules.specs.Entries.{badSaturation, saturationAnswer, saturationPalette, runAnswer, runCells, runPalette};
 
 // Row 6 of saturation: beta is NaN or not from 0 to 16, or carries a double out of range.
 fn bad_saturation(palette: &[f64], k: usize, beta: f64) -> bool
@@ -53,59 +53,6 @@ pub fn apply_saturation(palette: &mut [f64], k: usize, beta: f64) -> Filling
 
 // The passes of the first cleaning.
 pub const ORPHAN_MAX_PASSES: u32 = 5;
-
-// The steps, for what no row refuses.
-fn process(
-    cells: &mut [i32],
-    h: usize,
-    w: usize,
-    palette: &mut [f64],
-    k: usize,
-    config: PostConfig,
-    saturated: bool,
-    fixed_palette: bool,
-    outline_margin: i32,
-    work: &mut [u32],
-) -> Processing
-    requires { ⌜ runRefusal (now cells) h w (paletteOf (now palette) k) config saturated «fixed_palette» «outline_margin» (length (now work)) ≡ none ⌝ }
-    ensures { λ r. ⌜ r ≡ runAnswer (now (cells .entry)) h w (paletteOf (now (palette .entry)) k) config saturated «fixed_palette» «outline_margin» (length (now (work .entry))) ⌝ }
-    ensures { λ r. ⌜ now (cells .exit) ≡ runCells (now (cells .entry)) h w (paletteOf (now (palette .entry)) k) config saturated «fixed_palette» «outline_margin» (length (now (work .entry))) ⌝ }
-    ensures { λ r. ⌜ now (palette .exit) ≡ runPalette (now (cells .entry)) h w (paletteOf (now (palette .entry)) k) config saturated «fixed_palette» «outline_margin» (length (now (work .entry))) ⌝ }
-{
-    let kept = kept(saturated, fixed_palette);
-    tone_unless(kept, palette, k, config);
-    let on = config.remove_orphans;
-    let passes = tidy_if(on, cells, h, w, palette, k, config, ORPHAN_MAX_PASSES, work);
-    let jaggies = config.fix_jaggies;
-    trim_if(jaggies, cells, h, w, work);
-    let facts = outline_if(
-        cells,
-        h,
-        w,
-        palette,
-        k,
-        config,
-        fixed_palette,
-        outline_margin,
-        work,
-    );
-    let after = again(config);
-    let height = facts.height;
-    let width = facts.width;
-    let colours = facts.colours;
-    let more = tidy_if(
-        after,
-        cells,
-        height,
-        width,
-        palette,
-        colours,
-        config,
-        1,
-        work,
-    );
-    Processing::Processed(facts, passes, more)
-}
 
 // Saturation, cleaning, corners and outline, each as switched on, and cleaning once more after an outline.
 pub fn run(
@@ -140,16 +87,11 @@ pub fn run(
     if let Filling::Refused(n) = refused {
         return Processing::Refused(n);
     }
-    process(
-        cells,
-        h,
-        w,
-        palette,
-        k,
-        config,
-        saturated,
-        fixed_palette,
-        outline_margin,
-        work,
-    )
+    tone_unless(kept(saturated, fixed_palette), palette, k, config);
+    let passes = tidy_if(cells, h, w, palette, k, config, ORPHAN_MAX_PASSES, work);
+    trim_if(cells, h, w, config, work);
+    let pad = pad_allowed(config, outline_margin);
+    let facts = outline_if(cells, h, w, palette, k, config, fixed_palette, pad, work);
+    let again = tidy_again(cells, facts, palette, config, work);
+    Processing::Processed(facts, passes, again)
 }

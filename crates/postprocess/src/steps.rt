@@ -1,5 +1,4 @@
 // The steps of `run`, each made as it is switched on.
-use crate::rows::pad_allowed;
 use crate::saturation::saturate;
 use jaggies::trim_sheet;
 use orphans::clean_sheet;
@@ -13,6 +12,7 @@ ghost use mathlib.Core.Path.{_≡_};
 ghost use mathlib.Core.Bool.{true, false, cond, _&&_};
 ghost use mathlib.Core.Option.{none};
 ghost use Prim.Native.Nat.{_*_, _≤_};
+ghost use lib.IntN.{ℤ};
 ghost use lib.ListN.{length};
 ghost use Rattle.rules.specs.Sheet.{sheetOf, over};
 ghost use Rattle.rules.specs.Palette.{paletteOf};
@@ -35,7 +35,6 @@ pub fn tone_unless(kept: bool, palette: &mut [f64], k: usize, config: PostConfig
 
 // Cleans the sheet, if that is on, and answers how many passes repainted.
 pub fn tidy_if(
-    on: bool,
     cells: &mut [i32],
     h: usize,
     w: usize,
@@ -46,11 +45,11 @@ pub fn tidy_if(
     work: &mut [u32],
 ) -> u32
     requires { ⌜ h * w ≤ length (now cells) ⌝ }
-    requires { ⌜ (on ≡ true → Fit (now cells) h w (now palette) k (config .«orphan_min_region») (length (now work))) ⌝ }
-    ensures { λ r. ⌜ r ≡ tidyIf on «max_passes» (paletteOf (now (palette .entry)) k) (limitsOf config) (sheetOf (now (cells .entry)) h w) .passes ⌝ }
-    ensures { λ r. ⌜ now (cells .exit) ≡ over (tidyIf on «max_passes» (paletteOf (now (palette .entry)) k) (limitsOf config) (sheetOf (now (cells .entry)) h w) .sheet .cells) (now (cells .entry)) ⌝ }
+    requires { ⌜ (config .«remove_orphans» ≡ true → Fit (now cells) h w (now palette) k (config .«orphan_min_region») (length (now work))) ⌝ }
+    ensures { λ r. ⌜ r ≡ tidyIf (config .«remove_orphans») «max_passes» (paletteOf (now (palette .entry)) k) (limitsOf config) (sheetOf (now (cells .entry)) h w) .passes ⌝ }
+    ensures { λ r. ⌜ now (cells .exit) ≡ over (tidyIf (config .«remove_orphans») «max_passes» (paletteOf (now (palette .entry)) k) (limitsOf config) (sheetOf (now (cells .entry)) h w) .sheet .cells) (now (cells .entry)) ⌝ }
 {
-    if !on {
+    if !config.remove_orphans {
         return 0;
     }
     let min_region = config.orphan_min_region;
@@ -69,11 +68,11 @@ pub fn tidy_if(
 }
 
 // Trims corners, if that is on.
-pub fn trim_if(on: bool, cells: &mut [i32], h: usize, w: usize, work: &mut [u32])
+pub fn trim_if(cells: &mut [i32], h: usize, w: usize, config: PostConfig, work: &mut [u32])
     requires { ⌜ (h ≤ 512) × (w ≤ 512) × (h * w ≤ length (now cells)) × (8 * (h * w) ≤ length (now work)) ⌝ }
-    ensures { λ r. ⌜ now (cells .exit) ≡ over (cond on (trim (sheetOf (now (cells .entry)) h w)) (sheetOf (now (cells .entry)) h w) .cells) (now (cells .entry)) ⌝ }
+    ensures { λ r. ⌜ now (cells .exit) ≡ over (cond (config .«fix_jaggies») (trim (sheetOf (now (cells .entry)) h w)) (sheetOf (now (cells .entry)) h w) .cells) (now (cells .entry)) ⌝ }
 {
-    if on {
+    if config.fix_jaggies {
         trim_sheet(cells, h, w, work);
     }
 }
@@ -91,7 +90,7 @@ fn plain(h: usize, w: usize, k: usize) -> Facts
     }
 }
 
-// Draws the outline, where one is asked for, and answers the facts of the sheet.
+// Draws the outline, where one is asked for, and answers the facts of the sheet. The call was checked: it is not refused.
 pub fn outline_if(
     cells: &mut [i32],
     h: usize,
@@ -100,18 +99,17 @@ pub fn outline_if(
     k: usize,
     config: PostConfig,
     fixed_palette: bool,
-    outline_margin: i32,
+    allow_pad: bool,
     work: &mut [u32],
 ) -> Facts
     requires { ⌜ h * w ≤ length (now cells) ⌝ }
-    requires { ⌜ (asked (config .outline) ≡ true → outlineRefusal (now cells) h w (paletteOf (now palette) k) (config .outline) (padAllowed config «outline_margin») «fixed_palette» (length (now work)) ≡ none) ⌝ }
-    ensures { λ r. ⌜ Drew (outlineIf «fixed_palette» config «outline_margin» (sheetOf (now (cells .entry)) h w) (paletteOf (now (palette .entry)) k)) (now (cells .entry)) r (now (cells .exit)) (now (palette .exit)) ⌝ }
+    requires { ⌜ (asked (config .outline) ≡ true → outlineRefusal (now cells) h w (paletteOf (now palette) k) (config .outline) «allow_pad» «fixed_palette» (length (now work)) ≡ none) ⌝ }
+    ensures { λ r. ⌜ ((margin : ℤ) → «allow_pad» ≡ padAllowed config margin → Drew (outlineIf «fixed_palette» config margin (sheetOf (now (cells .entry)) h w) (paletteOf (now (palette .entry)) k)) (now (cells .entry)) r (now (cells .exit)) (now (palette .exit))) ⌝ }
 {
     let outline = config.outline;
     if !asked(outline) {
         return plain(h, w, k);
     }
-    let allow_pad = pad_allowed(config, outline_margin);
     let Outlining::Drawn(facts) = add_outline(
         cells,
         h,
@@ -128,10 +126,25 @@ pub fn outline_if(
     facts
 }
 
-// Whether cleaning is made once more: after an outline call.
-pub fn again(config: PostConfig) -> bool
-    ensures { λ r. ⌜ r ≡ (config .«remove_orphans» && asked (config .outline)) ⌝ }
+// Cleans the sheet once more, with one pass, after an outline call.
+pub fn tidy_again(
+    cells: &mut [i32],
+    facts: Facts,
+    palette: &[f64],
+    config: PostConfig,
+    work: &mut [u32],
+) -> u32
+    requires { ⌜ facts .height * facts .width ≤ length (now cells) ⌝ }
+    requires { ⌜ (config .«remove_orphans» ≡ true → Fit (now cells) (facts .height) (facts .width) (now palette) (facts .colours) (config .«orphan_min_region») (length (now work))) ⌝ }
+    ensures { λ r. ⌜ r ≡ tidyIf (config .«remove_orphans» && asked (config .outline)) 1 (paletteOf (now (palette .entry)) (facts .colours)) (limitsOf config) (sheetOf (now (cells .entry)) (facts .height) (facts .width)) .passes ⌝ }
+    ensures { λ r. ⌜ now (cells .exit) ≡ over (tidyIf (config .«remove_orphans» && asked (config .outline)) 1 (paletteOf (now (palette .entry)) (facts .colours)) (limitsOf config) (sheetOf (now (cells .entry)) (facts .height) (facts .width)) .sheet .cells) (now (cells .entry)) ⌝ }
 {
     let outline = config.outline;
-    config.remove_orphans && asked(outline)
+    if !asked(outline) {
+        return 0;
+    }
+    let h = facts.height;
+    let w = facts.width;
+    let k = facts.colours;
+    tidy_if(cells, h, w, palette, k, config, 1, work)
 }

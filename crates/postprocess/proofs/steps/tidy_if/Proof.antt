@@ -6,7 +6,7 @@ use mir.Syntax.{w32}
 use mir.Val.{toZ, ofZ}
 use mir.Facts.{toZ-ofZ}
 use borrow.Author.Needs.{needs}
-use borrow.Author.Tests.{not-false}
+use borrow.Author.Tests.{not-true, not-false}
 use Rattle.rules.specs.Palette.{paletteOf}
 use Rattle.rules.specs.Sheet.{sheetOf, over}
 use Rattle.rules.specs.Run.{tidy, limitsOf}
@@ -14,24 +14,21 @@ use Rattle.orphans.specs.Entry.{Fit, limitsAt}
 use Rattle.postprocess.proofs.Switched.{tidies, untidied}
 use Rattle.postprocess.proofs.steps.tidy_if.Statement.{statement}
 use Rattle.postprocess.proofs.steps.tidy_if.Tie as tie
-use Rattle.postprocess.proofs.steps.tidy_if.Reads as reads
-use Rattle.postprocess.proofs.steps.tidy_if.Lts as lts
-use Rattle.orphans.proofs.clean_sheet.Reads as clean-sheet-reads
 
 -- the region limit comes back from its 32 bits
-back : (c : tie.After-struct-told) → toZ w32 (ofZ w32 (c .before .before .before .before .args .config .«orphan_min_region»)) ≡ c .before .before .before .before .args .config .«orphan_min_region»
-back c = toZ-ofZ {w = w32} {z = c .before .before .before .before .args .config .«orphan_min_region»} (record { sfits = c .struct-told .given .1 .1 .0 .1 })
+back : (c : tie.After-struct-told) → toZ w32 (ofZ w32 (c .before .before .before .before .before .args .config .«orphan_min_region»)) ≡ c .before .before .before .before .before .args .config .«orphan_min_region»
+back c = toZ-ofZ {w = w32} {z = c .before .before .before .before .before .args .config .«orphan_min_region»} (record { sfits = c .struct-told .given .1 .1 .0 .1 })
 
 returns : tie.Need-returns
 returns c =
-    let s = c .before .before .before in
+    let s = c .before .before .before .before in
     let a = s .args in
-    untidied (a .on) (a .cells .now) (a .h) (a .w) (a .max-passes) (paletteOf (a .palette .now) (a .k)) (limitsOf (a .config)) (s .pre .0) (c .if1 .taken)
+    untidied (a .cells .now) (a .h) (a .w) (a .max-passes) (paletteOf (a .palette .now) (a .k)) (limitsOf (a .config)) (a .config .«remove_orphans») (s .pre .0) (not-true _ (c .if1 .taken))
 
 clean-sheet-requires : tie.Need-clean-sheet-requires
 clean-sheet-requires c κs =
     let t = c .before .before in
-    let s = t .before .before .before .before in
+    let s = t .before .before .before .before .before in
     let a = s .args in
     subst (λ (z : ℤ). Fit (a .cells .now) (a .h) (a .w) (a .palette .now) (a .k) z (length (a .work .now))) (sym (back t)) (s .pre .1 (not-false _ (t .before .if1 .left)))
 
@@ -46,11 +43,11 @@ unfolding limitsOf
 returns-2 c =
     let r = c .before .before .before in
     let t = r .before .before .before in
-    let a = t .before .before .before .before .args in
+    let a = t .before .before .before .before .before .args in
     let p = paletteOf (a .palette .now) (a .k) in
     let s = sheetOf (a .cells .now) (a .h) (a .w) in
     let d = a .config .«orphan_max_delta» in
-    tidies (a .on) (a .cells .now) (a .h) (a .w) (a .max-passes) p (limitsOf (a .config)) (t .before .if1 .left)
+    tidies (a .cells .now) (a .h) (a .w) (a .max-passes) p (limitsOf (a .config)) (a .config .«remove_orphans») (t .before .if1 .left)
     (r .clean-sheet .ensures .0 ∙ ap (λ (z : ℤ). tidy (a .max-passes) p (limitsAt z d) s .passes) (back t))
     (r .clean-sheet .ensures .1 ∙ ap (λ (z : ℤ). over (tidy (a .max-passes) p (limitsAt z d) s .sheet .cells) (a .cells .now)) (back t))
 

@@ -18,10 +18,10 @@ returns c =
     let t = c .before .before .before in
     let i = t .before .before .before in
     let a = i .before .before .args in
-    trims (a .on) (a .cells .now) (a .h) (a .w) (i .if1 .taken) (t .trim-sheet .ensures)
+    trims (a .cells .now) (a .h) (a .w) (a .config .«fix_jaggies») (i .if1 .taken) (t .trim-sheet .ensures)
 
 returns-2 : tie.Need-returns-2
-returns-2 c = let s = c .before .before in untrimmed (s .args .on) (s .args .cells .now) (s .args .h) (s .args .w) (s .pre .2) (c .if1 .left)
+returns-2 c = let s = c .before .before in untrimmed (s .args .cells .now) (s .args .h) (s .args .w) (s .args .config .«fix_jaggies») (s .pre .2) (c .if1 .left)
 
 pub trim-if-spec : {M : Type 1} → statement M
 trim-if-spec = tie.close (tie.spec trim-sheet-requires same-length same-length-2 returns returns-2)

@@ -1,0 +1,44 @@
+-- `postprocess::steps::tidy_again` meets its contract, after an outline call and without one. Assumes nothing.
+use mathlib.Core.Path.{sym, _∙_}
+use borrow.Author.Needs.{needs}
+use borrow.Author.Tests.{not-true, not-false}
+use Rattle.rules.specs.Palette.{paletteOf}
+use Rattle.rules.specs.Outline.{asked}
+use Rattle.rules.specs.Run.{limitsOf}
+use Rattle.postprocess.proofs.Switched.{tidies-after, untidied-after}
+use Rattle.postprocess.proofs.steps.tidy_again.Statement.{statement}
+use Rattle.postprocess.proofs.steps.tidy_again.Tie as tie
+
+asked-requires : tie.Need-asked-requires
+asked-requires c κs = search needs
+
+returns : tie.Need-returns
+returns c =
+    let s = c .before .before .before .before in
+    let a = s .args in
+    let f = a .facts in
+    untidied-after (a .cells .now) (f .height) (f .width) 1 (paletteOf (a .palette .now) (f .colours)) (limitsOf (a .config)) (a .config .«remove_orphans») (asked (a .config .outline)) (s .pre .0)
+    (sym (c .before .asked .ensures) ∙ not-true _ (c .if1 .taken))
+
+tidy-if-requires : tie.Need-tidy-if-requires
+tidy-if-requires c κs = search needs
+
+same-length : tie.Need-same-length
+same-length c = search needs
+
+same-length-2 : tie.Need-same-length-2
+same-length-2 c = search needs
+
+returns-2 : tie.Need-returns-2
+returns-2 c =
+    let r = c .before .before .before in
+    let e = r .before .before .before in
+    let a = e .before .before .before .before .args in
+    let f = a .facts in
+    tidies-after (a .cells .now) (f .height) (f .width) 1 (paletteOf (a .palette .now) (f .colours)) (limitsOf (a .config)) (a .config .«remove_orphans») (asked (a .config .outline))
+    (sym (e .before .asked .ensures) ∙ not-false _ (e .if1 .left)) (r .tidy-if .ensures)
+
+pub tidy-again-spec : {M : Type 1} → statement M
+tidy-again-spec =
+    tie.close
+    (tie.spec asked-requires returns tidy-if-requires same-length same-length-2 returns-2)
