@@ -19,6 +19,8 @@ use rules::Facts;
 use rules::LineIndex;
 use rules::Outline;
 use rules::Outlining;
+use rules::PostConfig;
+use rules::Processing;
 
 // Room for the longest lists that are stored. A longer list shows as a difference.
 const LIST: usize = 1024;
@@ -78,6 +80,18 @@ fn outlined(answer: Outlining, facts: &mut [u32]) -> u8 {
     }
 }
 
+fn processed(answer: Processing, facts: &mut [u32]) -> u8 {
+    match answer {
+        Processing::Refused(n) => n,
+        Processing::Processed(f, first, second) => {
+            put_facts(facts, f);
+            put_fact(facts, 5, first);
+            put_fact(facts, 6, second);
+            0
+        }
+    }
+}
+
 fn orphans_told(
     cells: &mut [i32],
     h: usize,
@@ -116,6 +130,39 @@ fn outline_told(
     }
     outlined(
         outline::add_outline(cells, h, w, palette, k, outline, allow_pad, fixed, work),
+        facts,
+    )
+}
+
+fn run_told(
+    cells: &mut [i32],
+    h: usize,
+    w: usize,
+    palette: &mut [f64],
+    k: usize,
+    config: PostConfig,
+    saturated: bool,
+    fixed: bool,
+    margin: i32,
+    work: &mut [u32],
+    facts: &mut [u32],
+) -> u8 {
+    if facts.len() < 7 {
+        return no_facts(h, w);
+    }
+    processed(
+        postprocess::run(
+            cells,
+            h,
+            w,
+            palette,
+            k,
+            config,
+            saturated,
+            fixed,
+            margin,
+            work,
+        ),
         facts,
     )
 }
@@ -219,13 +266,68 @@ fn apply_saturation(numbers: &[u64], at: usize) -> Verdict {
     answered(numbers, past(p.end(), 2), answer).doubles(numbers, p, palette)
 }
 
+// The settings at a place: beta, orphans, region limit, colour limit, jaggies, the outline's five numbers, and tileset.
+fn config_at(numbers: &[u64], at: usize) -> PostConfig {
+    let outline = outline_at(numbers, past(at, 5));
+    PostConfig {
+        saturation_beta: double(number(numbers, at)),
+        remove_orphans: switch(numbers, past(at, 1)),
+        orphan_min_region: cell(number(numbers, past(at, 2))),
+        orphan_max_delta: double(number(numbers, past(at, 3))),
+        fix_jaggies: switch(numbers, past(at, 4)),
+        outline,
+        tileset: switch(numbers, past(at, 10)),
+    }
+}
+
+fn run(numbers: &[u64], at: usize) -> Verdict {
+    let mut first = [0i32; LIST];
+    let mut second = [0.0; LIST];
+    let mut third = [0u32; LIST];
+    let mut fourth = [0u32; LIST];
+    let c = Stored::at(numbers, at);
+    let h = number(numbers, c.end()) as usize;
+    let w = number(numbers, past(c.end(), 1)) as usize;
+    let p = Stored::at(numbers, past(c.end(), 2));
+    let at = p.end();
+    let k = number(numbers, at) as usize;
+    let config = config_at(numbers, past(at, 1));
+    let saturated = switch(numbers, past(at, 12));
+    let fixed = switch(numbers, past(at, 13));
+    let margin = cell(number(numbers, past(at, 14)));
+    let a = Stored::work(numbers, past(at, 15));
+    let f = Stored::at(numbers, a.end());
+    let cells = lend_cells(numbers, c, &mut first);
+    let palette = lend_doubles(numbers, p, &mut second);
+    let work = lend_words(numbers, a, &mut third);
+    let facts = lend_words(numbers, f, &mut fourth);
+    let answer = run_told(
+        cells,
+        h,
+        w,
+        palette,
+        k,
+        config,
+        saturated,
+        fixed,
+        margin,
+        work,
+        facts,
+    );
+    answered(numbers, f.end(), answer)
+        .cells(numbers, c, cells)
+        .doubles(numbers, p, palette)
+        .words(numbers, f, facts)
+}
+
 // A case of the entry with this number.
 fn case(entry: u64, numbers: &[u64], at: usize) -> Verdict {
     match entry {
         0 => remove_orphans(numbers, at),
         1 => fix_jaggies(numbers, at),
         2 => add_outline(numbers, at),
-        _ => apply_saturation(numbers, at),
+        3 => apply_saturation(numbers, at),
+        _ => run(numbers, at),
     }
 }
 
@@ -251,4 +353,5 @@ fn main() {
     replayed(1, b"fix_jaggies.txt");
     replayed(2, b"add_outline.txt");
     replayed(3, b"apply_saturation.txt");
+    replayed(4, b"run.txt");
 }
