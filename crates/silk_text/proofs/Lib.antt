@@ -4,3 +4,7 @@ pub mod Signs
 pub mod Laying
 pub mod Repeating
 pub mod Whole
+pub mod Digits
+pub mod Printing
+pub mod Cells
+pub mod Outcome

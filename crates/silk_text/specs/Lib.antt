@@ -1,3 +1,4 @@
 pub mod Reader
 pub mod Format
 pub mod Answers
+pub mod Print
