@@ -1,0 +1,45 @@
+-- `silk_c::silk_hex_to_rgb8` meets its contract: refused by 2 for too short an output, else what the text names. Assumes nothing.
+use Prim.Native.Nat.{ℕ}
+use mathlib.Core.Option.{Option}
+use mathlib.Core.List.{[], _∷_}
+use borrow.Author.Tests.{lt-ltb, le-ltb}
+use lib.Dec.{ltb}
+use lib.ListN.{length}
+use Rattle.base.specs.Refusals.{row, refusal}
+use Rattle.checks.proofs.Rows.{row-hit, row-pass}
+use Rattle.silk_c.specs.Outcomes.{coloured}
+use Rattle.silk_c.proofs.Hearing.{turned-code, turned-facts, heard-code, heard-facts}
+use borrow.Author.Needs.{needs}
+use Rattle.silk_c.proofs.silk_hex_to_rgb8.Statement.{statement}
+use Rattle.silk_c.proofs.silk_hex_to_rgb8.Tie as tie
+
+abbrev rows : tie.Start → Option ℕ
+rows s = refusal (row 2 (ltb (length (s .args .out .now)) 3) ∷ [])
+
+returns : tie.Need-returns
+returns c =
+    let s = c .before .before .before in
+    let e = row-hit (row 2 (ltb (length (s .args .out .now)) 3)) [] (lt-ltb _ _ (c .if1 .taken)) in
+    (turned-code (rows s) e _, turned-facts (rows s) e _ _)
+
+hex-to-rgb8-requires : tie.Need-hex-to-rgb8-requires
+hex-to-rgb8-requires c κs = search needs
+
+tell-colour-requires : tie.Need-tell-colour-requires
+tell-colour-requires c κs = search needs
+
+same-length : tie.Need-same-length
+same-length c = search needs
+
+returns-2 : tie.Need-returns-2
+unfolding refusal
+returns-2 c =
+    let t = c .before .before in
+    let x = t .before .before in
+    let s = x .before .before .before .before in
+    let e = row-pass (row 2 (ltb (length (s .args .out .now)) 3)) [] (le-ltb _ _ (x .before .if1 .left)) in
+    (heard-code (rows s) e coloured (t .tell-colour .ensures .0) (x .hex-to-rgb8 .ensures), heard-facts (rows s) e coloured (s .args .out .now) (t .tell-colour .ensures .1) (x .hex-to-rgb8 .ensures))
+
+pub silk-hex-to-rgb8-spec : {M : Type 1} → statement M
+silk-hex-to-rgb8-spec =
+    tie.close (tie.spec returns hex-to-rgb8-requires tell-colour-requires same-length returns-2)

@@ -1,0 +1,25 @@
+-- `silk_c::told::number` meets its contract: by the answer's cases. Assumes nothing.
+use Rattle.silk_c.specs.Outcomes.{code, done}
+use borrow.Author.Needs.{needs}
+use Rattle.silk_c.proofs.told.number.Statement.{statement}
+use Rattle.silk_c.proofs.told.number.Tie as tie
+
+enum-told : tie.Need-enum-told
+enum-told c = search needs
+
+enum-known-answer : tie.Need-enum-known-answer
+enum-known-answer c = search needs
+
+cast-result : tie.Need-cast-result
+cast-result c = search needs
+
+returns : tie.Need-returns
+unfolding code done
+returns c = rw (c .enum-told .given .1)
+
+returns-2 : tie.Need-returns-2
+unfolding code done
+returns-2 c = rw (c .before .answer .given .1)
+
+pub number-spec : {M : Type 1} → statement M
+number-spec = tie.close (tie.spec enum-told enum-known-answer cast-result returns returns-2)

@@ -1,0 +1,3 @@
+pub mod Outcomes
+pub mod Arguments
+pub mod Room

@@ -1,0 +1,246 @@
+// The entries for C, on numbers and slices: each answers 0 for an accepted call, or the refusal's number.
+pub mod told;
+
+use crate::told::facts_rows;
+use crate::told::number;
+use crate::told::tell_colour;
+use crate::told::tell_outline;
+use crate::told::tell_passes;
+use crate::told::tell_regions;
+use base::Filling;
+use rules::Outline;
+ghost use mathlib.Core.Path.{_≡_};
+ghost use mathlib.Core.List.{[], _∷_};
+ghost use lib.Dec.{ltb};
+ghost use lib.ListN.{length};
+ghost use Rattle.base.specs.Refusals.{row, refusal, unless, filling};
+ghost use Rattle.color.specs.Entries.{rgb8ToLabRows, rgb8ToLabOut, labToRgb8Rows, labToRgb8Out, deltaERows, deltaEOut, matrixRows, matrixOut, nearestRows, nearestOut};
+ghost use Rattle.color.specs.Hex.{hexToRgb8};
+ghost use Rattle.rules.specs.Palette.{paletteOf};
+ghost use Rattle.rules.specs.Masks.{isSet, regionsAnswer, regionsLabels, maskAnswer, maskLabels, dilationAnswer, dilationOut};
+ghost use Rattle.rules.specs.Entries.{orphansAnswer, orphansCells, jaggiesAnswer, jaggiesCells, outlineAnswer, outlineCells, outlinePalette, saturationAnswer, saturationPalette};
+ghost use Rattle.orphans.specs.Entry.{limitsAt};
+ghost use Rattle.silk_c.specs.Arguments.{outlineOf};
+ghost use Rattle.silk_c.specs.Outcomes.{refused, code, received, heard, done, labelled, cleaned, outlined, coloured};
+
+// Colours of sRGB as colours of CIELAB.
+#[no_mangle]
+pub extern "C" fn silk_rgb8_to_lab(rgb: &[u8], out: &mut [f64]) -> u32
+    ensures { λ r. ⌜ r ≡ code (done (filling (refusal (rgb8ToLabRows (now (rgb .entry)) (length (now (out .entry))))))) ⌝ }
+    ensures { λ _. ⌜ now (out .exit) ≡ rgb8ToLabOut (now (rgb .entry)) (now (out .entry)) ⌝ }
+{
+    number(color::rgb8_to_lab(rgb, out))
+}
+
+// Colours of CIELAB as colours of sRGB.
+#[no_mangle]
+pub extern "C" fn silk_lab_to_rgb8(lab: &[f64], out: &mut [u8]) -> u32
+    ensures { λ r. ⌜ r ≡ code (done (filling (refusal (labToRgb8Rows (now (lab .entry)) (length (now (out .entry))))))) ⌝ }
+    ensures { λ _. ⌜ now (out .exit) ≡ labToRgb8Out (now (lab .entry)) (now (out .entry)) ⌝ }
+{
+    number(color::lab_to_rgb8(lab, out))
+}
+
+// The distances of the colours of two lists, pair by pair.
+#[no_mangle]
+pub extern "C" fn silk_delta_e(a: &[f64], b: &[f64], out: &mut [f64]) -> u32
+    ensures { λ r. ⌜ r ≡ code (done (filling (refusal (deltaERows (now (a .entry)) (now (b .entry)) (length (now (out .entry))))))) ⌝ }
+    ensures { λ _. ⌜ now (out .exit) ≡ deltaEOut (now (a .entry)) (now (b .entry)) (now (out .entry)) ⌝ }
+{
+    number(color::delta_e(a, b, out))
+}
+
+// The index of the nearest palette entry for each pixel.
+#[no_mangle]
+pub extern "C" fn silk_nearest_index(pixels: &[f64], palette: &[f64], out: &mut [i32]) -> u32
+    ensures { λ r. ⌜ r ≡ code (done (filling (refusal (nearestRows (now (pixels .entry)) (now (palette .entry)) (length (now (out .entry))))))) ⌝ }
+    ensures { λ _. ⌜ now (out .exit) ≡ nearestOut (now (pixels .entry)) (now (palette .entry)) (now (out .entry)) ⌝ }
+{
+    number(color::nearest_index(pixels, palette, out))
+}
+
+// The distances of all colours of a palette from each other, row after row.
+#[no_mangle]
+pub extern "C" fn silk_palette_distance_matrix(palette: &[f64], out: &mut [f64]) -> u32
+    ensures { λ r. ⌜ r ≡ code (done (filling (refusal (matrixRows (now (palette .entry)) (length (now (out .entry))))))) ⌝ }
+    ensures { λ _. ⌜ now (out .exit) ≡ matrixOut (now (palette .entry)) (now (out .entry)) ⌝ }
+{
+    number(color::palette_distance_matrix(palette, out))
+}
+
+// The colour that a text names, as three bytes.
+#[no_mangle]
+pub extern "C" fn silk_hex_to_rgb8(text: &[u8], out: &mut [u8]) -> u32
+    ensures { λ r. ⌜ r ≡ code (unless (refusal (row 2 (ltb (length (now (out .entry))) 3) ∷ [])) refused (coloured (hexToRgb8 (now (text .entry))))) ⌝ }
+    ensures { λ _. ⌜ now (out .exit) ≡ received (unless (refusal (row 2 (ltb (length (now (out .entry))) 3) ∷ [])) refused (coloured (hexToRgb8 (now (text .entry))))) (now (out .entry)) ⌝ }
+{
+    if out.len() < 3 {
+        return 2;
+    }
+    let answer = color::hex_to_rgb8(text);
+    tell_colour(answer, out)
+}
+
+// The labels of a sheet's regions; one fact: their number.
+#[no_mangle]
+pub extern "C" fn silk_label_regions(
+    cells: &[i32],
+    h: usize,
+    w: usize,
+    labels: &mut [u32],
+    work: &mut [u32],
+    facts: &mut [u32],
+) -> u32
+    ensures { λ r. ⌜ r ≡ code (heard h w (length (now (facts .entry))) 1 refused (labelled (regionsAnswer (now (cells .entry)) h w (now (labels .entry)) (length (now (work .entry)))))) ⌝ }
+    ensures { λ _. ⌜ now (labels .exit) ≡ heard h w (length (now (facts .entry))) 1 (λ n. now (labels .entry)) (regionsLabels (now (cells .entry)) h w (now (labels .entry)) (length (now (work .entry)))) ⌝ }
+    ensures { λ _. ⌜ now (facts .exit) ≡ received (heard h w (length (now (facts .entry))) 1 refused (labelled (regionsAnswer (now (cells .entry)) h w (now (labels .entry)) (length (now (work .entry)))))) (now (facts .entry)) ⌝ }
+{
+    if let Filling::Refused(n) = facts_rows(h, w, facts.len(), 1) {
+        return n as u32;
+    }
+    let answer = grid::label_regions(cells, h, w, labels, work);
+    tell_regions(answer, facts)
+}
+
+// The labels of a mask's regions; one fact: their number.
+#[no_mangle]
+pub extern "C" fn silk_label4(
+    mask: &[u8],
+    h: usize,
+    w: usize,
+    labels: &mut [u32],
+    work: &mut [u32],
+    facts: &mut [u32],
+) -> u32
+    ensures { λ r. ⌜ r ≡ code (heard h w (length (now (facts .entry))) 1 refused (labelled (maskAnswer (now (mask .entry)) h w (now (labels .entry)) (length (now (work .entry)))))) ⌝ }
+    ensures { λ _. ⌜ now (labels .exit) ≡ heard h w (length (now (facts .entry))) 1 (λ n. now (labels .entry)) (maskLabels (now (mask .entry)) h w (now (labels .entry)) (length (now (work .entry)))) ⌝ }
+    ensures { λ _. ⌜ now (facts .exit) ≡ received (heard h w (length (now (facts .entry))) 1 refused (labelled (maskAnswer (now (mask .entry)) h w (now (labels .entry)) (length (now (work .entry)))))) (now (facts .entry)) ⌝ }
+{
+    if let Filling::Refused(n) = facts_rows(h, w, facts.len(), 1) {
+        return n as u32;
+    }
+    let answer = mask::label4(mask, h, w, labels, work);
+    tell_regions(answer, facts)
+}
+
+// A mask dilated by k rows and columns.
+#[no_mangle]
+pub extern "C" fn silk_binary_dilation8(
+    mask: &[u8],
+    h: usize,
+    w: usize,
+    k: u32,
+    out: &mut [u8],
+    work: &mut [u32],
+) -> u32
+    ensures { λ r. ⌜ r ≡ code (done (dilationAnswer (now (mask .entry)) h w k (now (out .entry)) (length (now (work .entry))))) ⌝ }
+    ensures { λ _. ⌜ now (out .exit) ≡ dilationOut (now (mask .entry)) h w k (now (out .entry)) (length (now (work .entry))) ⌝ }
+{
+    number(mask::binary_dilation8(mask, h, w, k, out, work))
+}
+
+// Cleaning over the lent cells; one fact: the count of repainting passes.
+#[no_mangle]
+pub extern "C" fn silk_remove_orphans(
+    cells: &mut [i32],
+    h: usize,
+    w: usize,
+    palette: &[f64],
+    k: usize,
+    orphan_min_region: i32,
+    max_passes: u32,
+    orphan_max_delta: f64,
+    work: &mut [u32],
+    facts: &mut [u32],
+) -> u32
+    ensures { λ r. ⌜ r ≡ code (heard h w (length (now (facts .entry))) 1 refused (cleaned (orphansAnswer (now (cells .entry)) h w (paletteOf (now (palette .entry)) k) (limitsAt «orphan_min_region» «orphan_max_delta») «max_passes» (length (now (work .entry)))))) ⌝ }
+    ensures { λ _. ⌜ now (cells .exit) ≡ heard h w (length (now (facts .entry))) 1 (λ n. now (cells .entry)) (orphansCells (now (cells .entry)) h w (paletteOf (now (palette .entry)) k) (limitsAt «orphan_min_region» «orphan_max_delta») «max_passes» (length (now (work .entry)))) ⌝ }
+    ensures { λ _. ⌜ now (facts .exit) ≡ received (heard h w (length (now (facts .entry))) 1 refused (cleaned (orphansAnswer (now (cells .entry)) h w (paletteOf (now (palette .entry)) k) (limitsAt «orphan_min_region» «orphan_max_delta») «max_passes» (length (now (work .entry)))))) (now (facts .entry)) ⌝ }
+{
+    if let Filling::Refused(n) = facts_rows(h, w, facts.len(), 1) {
+        return n as u32;
+    }
+    let answer = orphans::remove_orphans(
+        cells,
+        h,
+        w,
+        palette,
+        k,
+        orphan_min_region,
+        max_passes,
+        orphan_max_delta,
+        work,
+    );
+    tell_passes(answer, facts)
+}
+
+// Corners trimmed over the lent cells.
+#[no_mangle]
+pub extern "C" fn silk_fix_jaggies(cells: &mut [i32], h: usize, w: usize, work: &mut [u32]) -> u32
+    ensures { λ r. ⌜ r ≡ code (done (jaggiesAnswer (now (cells .entry)) h w (length (now (work .entry))))) ⌝ }
+    ensures { λ _. ⌜ now (cells .exit) ≡ jaggiesCells (now (cells .entry)) h w (length (now (work .entry))) ⌝ }
+{
+    number(jaggies::fix_jaggies(cells, h, w, work))
+}
+
+// The outline of a kind: 1 is auto with its darkening, 2 the triple, any other none.
+fn outline_of(kind: u32, darken: f64, r: u8, g: u8, b: u8) -> Outline
+    ensures { λ o. ⌜ o ≡ outlineOf kind darken r g b ⌝ }
+{
+    if kind == 1 {
+        return Outline::Auto(darken);
+    }
+    if kind == 2 {
+        return Outline::Rgb(r, g, b);
+    }
+    Outline::None
+}
+
+// A nonzero byte is set.
+fn is_set(b: u8) -> bool
+    ensures { λ r. ⌜ r ≡ isSet b ⌝ }
+{
+    b != 0
+}
+
+// An outline drawn over the lent cells and palette; five facts: height, width, colours, index (one more, 0 for none), clipped.
+#[no_mangle]
+pub extern "C" fn silk_add_outline(
+    cells: &mut [i32],
+    h: usize,
+    w: usize,
+    palette: &mut [f64],
+    k: usize,
+    kind: u32,
+    darken: f64,
+    r: u8,
+    g: u8,
+    b: u8,
+    allow_pad: u8,
+    fixed_palette: u8,
+    work: &mut [u32],
+    facts: &mut [u32],
+) -> u32
+    ensures { λ n. ⌜ n ≡ code (heard h w (length (now (facts .entry))) 5 refused (outlined (outlineAnswer (now (cells .entry)) h w (paletteOf (now (palette .entry)) k) (outlineOf kind darken r g b) (isSet «allow_pad») (isSet «fixed_palette») (length (now (work .entry)))))) ⌝ }
+    ensures { λ _. ⌜ now (cells .exit) ≡ heard h w (length (now (facts .entry))) 5 (λ n. now (cells .entry)) (outlineCells (now (cells .entry)) h w (paletteOf (now (palette .entry)) k) (outlineOf kind darken r g b) (isSet «allow_pad») (isSet «fixed_palette») (length (now (work .entry)))) ⌝ }
+    ensures { λ _. ⌜ now (palette .exit) ≡ heard h w (length (now (facts .entry))) 5 (λ n. now (palette .entry)) (outlinePalette (now (cells .entry)) h w (paletteOf (now (palette .entry)) k) (outlineOf kind darken r g b) (isSet «allow_pad») (isSet «fixed_palette») (length (now (work .entry)))) ⌝ }
+    ensures { λ _. ⌜ now (facts .exit) ≡ received (heard h w (length (now (facts .entry))) 5 refused (outlined (outlineAnswer (now (cells .entry)) h w (paletteOf (now (palette .entry)) k) (outlineOf kind darken r g b) (isSet «allow_pad») (isSet «fixed_palette») (length (now (work .entry)))))) (now (facts .entry)) ⌝ }
+{
+    if let Filling::Refused(n) = facts_rows(h, w, facts.len(), 5) {
+        return n as u32;
+    }
+    let outline = outline_of(kind, darken, r, g, b);
+    let pad = is_set(allow_pad);
+    let fixed = is_set(fixed_palette);
+    let answer = outline::add_outline(cells, h, w, palette, k, outline, pad, fixed, work);
+    tell_outline(answer, facts)
+}
+
+// A palette's a and b multiplied by beta.
+#[no_mangle]
+pub extern "C" fn silk_apply_saturation(palette: &mut [f64], k: usize, beta: f64) -> u32
+    ensures { λ r. ⌜ r ≡ code (done (saturationAnswer (paletteOf (now (palette .entry)) k) beta)) ⌝ }
+    ensures { λ _. ⌜ now (palette .exit) ≡ saturationPalette (paletteOf (now (palette .entry)) k) beta ⌝ }
+{
+    number(postprocess::apply_saturation(palette, k, beta))
+}
