@@ -1,9 +1,35 @@
-# make test   everything that the gate does; its last line is 'N passed, 0 failed'
-# make run    proves and runs the programs that replay stored answers
-.PHONY: test run
-test:
+# make test     everything that the gate does; its last line is 'N passed, 0 failed'
+# make run      proves and runs the programs that replay stored answers
+# make lib      the C library: target/staticlib/libsilk_c.a, declared in include/silk.h
+# make example  builds examples/c with it and runs that
+# make compare  the library beside the Rust original in SHARED, CASES random calls of each entry and more
+# make bench    times of both
+.PHONY: test run lib example compare bench compared
+CFLAGS = -std=c11 -Wall -Wextra -Wpedantic -Werror
+SHARED = ../shared
+CASES = 20000
+COMPARE = target/cargo/release/compare
+
+test: example
 	@rt fmt --check
 	@rt ci
 
 run:
 	@rt check vectors_color vectors_grid vectors_sheet
+
+lib:
+	@rt staticlib silk_c
+
+example: lib
+	@$(CC) $(CFLAGS) -I include examples/c/clean.c target/staticlib/libsilk_c.a -o target/clean
+	@target/clean
+
+compared: lib
+	@python3 compare/reference.py target/reference $(SHARED)
+	@cargo build -q --release --offline --manifest-path compare/Cargo.toml --target-dir target/cargo
+
+compare: compared
+	@$(COMPARE) check $(CASES)
+
+bench: compared
+	@$(COMPARE) bench

@@ -43,13 +43,16 @@ extern "C" {
 #define SILK_OUTLINE_AUTO 1
 #define SILK_OUTLINE_RGB 2
 
-/* Places in the list of facts of silk_add_outline. */
+/* Places in the lists of facts of silk_add_outline and silk_run. */
 #define SILK_HEIGHT 0
 #define SILK_WIDTH 1
 #define SILK_COLOURS 2
 #define SILK_OUTLINE_INDEX 3 /* one more than the entry's index; 0 where no ring was drawn */
 #define SILK_OUTLINE_CLIPPED 4
 #define SILK_OUTLINE_FACTS 5
+#define SILK_PASSES 5       /* repainting passes of the first cleaning, 0 where it was not made */
+#define SILK_PASSES_AGAIN 6 /* those of the second */
+#define SILK_RUN_FACTS 7
 
 /* The regions of a sheet, cells of one index joined by steps to the eight neighbours. */
 uint32_t silk_label_regions(
@@ -119,6 +122,29 @@ uint32_t silk_apply_saturation(
     double *palette, size_t palette_len,  /* in and out: the palette; 768 */
     size_t k,                             /* its entries in use, at most 256 */
     double beta);                         /* the factor, 0 to 16 */
+
+/* All steps, each as switched on: saturation, cleaning with 5 passes, corners, outline, and after an
+ * outline cleaning once more with 1 pass. Padding is allowed where tileset is off and the margin is 0. */
+uint32_t silk_run(
+    int32_t *cells, size_t cells_len,     /* in and out: the sheet; at least the needed cells */
+    size_t h,                             /* rows, at most 512 */
+    size_t w,                             /* columns, at most 512 */
+    double *palette, size_t palette_len,  /* in and out: the palette; 768 */
+    size_t k,                             /* its entries in use, at most 256 */
+    double beta,                          /* saturation factor, 0 to 16 */
+    uint8_t remove_orphans,               /* switch: cleaning */
+    int32_t orphan_min_region,            /* region limit: a region of fewer cells is small */
+    double orphan_max_delta,              /* colour limit, 0 to 1024 */
+    uint8_t fix_jaggies,                  /* switch: corners */
+    uint32_t kind,                        /* SILK_OUTLINE_NONE, .._AUTO or .._RGB; any other is refused by 6 */
+    double darken,                        /* darkening of auto, 0 to 1; not looked at otherwise */
+    uint8_t r, uint8_t g, uint8_t b,      /* the triple of SILK_OUTLINE_RGB; not looked at otherwise */
+    uint8_t tileset,                      /* switch: no padding */
+    uint8_t saturated,                    /* switch: the palette is saturated already */
+    uint8_t fixed_palette,                /* switch: the palette is kept, the nearest entry serves */
+    int32_t outline_margin,               /* padding needs 0 */
+    uint32_t *work, size_t work_len,      /* work area; at least 8 for each needed cell */
+    uint32_t *facts, size_t facts_len);   /* out: the facts of silk_add_outline, passes of both cleanings; at least 7 */
 
 /* Colours of sRGB, three bytes each, as colours of CIELAB, three doubles each. */
 uint32_t silk_rgb8_to_lab(

@@ -1,6 +1,7 @@
 /*
- * Cleans a small sheet through the C interface and prints it: a stray cell goes, then an outline
- * is drawn around the figure. Ends with status 1, and says why, if a result is not the expected one.
+ * Cleans a small sheet through the C interface and prints it: a stray cell goes, then an outline is
+ * drawn around the figure; silk_run does both in one call. Ends with status 1, and says why, if a
+ * result is not the expected one.
  *
  *     make lib
  *     cc -I include examples/c/clean.c target/staticlib/libsilk_c.a -o target/clean
@@ -23,7 +24,40 @@ static void expect(const char *what, uint32_t got, uint32_t wanted)
     }
 }
 
-static void print_sheet(const int32_t *cells, size_t h, size_t w)
+/* the sheet's room, with padding */
+static int32_t cells[PADDED];
+static double palette[PALETTE];
+static uint32_t work[8 * PADDED];
+static uint32_t facts[SILK_RUN_FACTS];
+
+/* A square of colour 0 with one stray cell of colour 1. */
+static void load(void)
+{
+    static const int32_t sheet[ROWS * COLUMNS] = {0, 0, 0, 0, 1, 0, 0, 0, 0};
+    static const uint8_t rgb[6] = {0x80, 0x20, 0x20, 0x88, 0x28, 0x28};
+    memcpy(cells, sheet, sizeof sheet);
+    expect("rgb8_to_lab", silk_rgb8_to_lab(rgb, 6, palette, PALETTE), 0);
+}
+
+/* The square is cleaned, and the outline around it has the new colour 2. */
+static void expect_outlined(void)
+{
+    static const int32_t wanted[PADDED] = {
+        -1, 2, 2, 2, -1,
+        2, 0, 0, 0, 2,
+        2, 0, 0, 0, 2,
+        2, 0, 0, 0, 2,
+        -1, 2, 2, 2, -1,
+    };
+    expect("height", facts[SILK_HEIGHT], ROWS + 2);
+    expect("width", facts[SILK_WIDTH], COLUMNS + 2);
+    expect("colours", facts[SILK_COLOURS], 3);
+    expect("outline index", facts[SILK_OUTLINE_INDEX], 3);
+    expect("outline clipped", facts[SILK_OUTLINE_CLIPPED], 0);
+    expect("other cells", memcmp(cells, wanted, sizeof cells) != 0, 0);
+}
+
+static void print_sheet(size_t h, size_t w)
 {
     for (size_t y = 0; y < h; y++) {
         for (size_t x = 0; x < w; x++) {
@@ -33,41 +67,36 @@ static void print_sheet(const int32_t *cells, size_t h, size_t w)
     }
 }
 
+static uint32_t clean(size_t h, size_t w, size_t facts_len)
+{
+    return silk_remove_orphans(cells, PADDED, h, w, palette, PALETTE, 2, 2, 5, 25.0, work, 8 * PADDED, facts, facts_len);
+}
+
 int main(void)
 {
-    /* a square of colour 0 with one stray cell of colour 1; room for padding after it */
-    int32_t cells[PADDED] = {0, 0, 0, 0, 1, 0, 0, 0, 0};
-    const int32_t wanted[PADDED] = {
-        -1, 2, 2, 2, -1,
-        2, 0, 0, 0, 2,
-        2, 0, 0, 0, 2,
-        2, 0, 0, 0, 2,
-        -1, 2, 2, 2, -1,
-    };
-    const uint8_t rgb[6] = {0x80, 0x20, 0x20, 0x88, 0x28, 0x28};
-    double palette[PALETTE] = {0};
-    uint32_t work[8 * PADDED];
-    uint32_t facts[SILK_OUTLINE_FACTS] = {0};
-
-    expect("rgb8_to_lab", silk_rgb8_to_lab(rgb, 6, palette, PALETTE), 0);
-    expect("remove_orphans", silk_remove_orphans(cells, PADDED, ROWS, COLUMNS, palette, PALETTE, 2, 2, 5, 25.0, work, 8 * PADDED, facts, SILK_OUTLINE_FACTS), 0);
+    load();
+    expect("remove_orphans", clean(ROWS, COLUMNS, SILK_RUN_FACTS), 0);
     expect("repainting passes", facts[0], 1);
-    print_sheet(cells, ROWS, COLUMNS);
+    print_sheet(ROWS, COLUMNS);
+    expect("add_outline",
+           silk_add_outline(cells, PADDED, ROWS, COLUMNS, palette, PALETTE, 2, SILK_OUTLINE_AUTO, 0.5, 0, 0, 0, 1, 0,
+                            work, 8 * PADDED, facts, SILK_RUN_FACTS),
+           0);
+    expect_outlined();
+    print_sheet(facts[SILK_HEIGHT], facts[SILK_WIDTH]);
 
-    expect("add_outline", silk_add_outline(cells, PADDED, ROWS, COLUMNS, palette, PALETTE, 2, SILK_OUTLINE_AUTO, 0.5, 0, 0, 0, 1, 0, work, 8 * PADDED, facts, SILK_OUTLINE_FACTS), 0);
-    expect("height", facts[SILK_HEIGHT], ROWS + 2);
-    expect("width", facts[SILK_WIDTH], COLUMNS + 2);
-    expect("colours", facts[SILK_COLOURS], 3);
-    expect("outline index", facts[SILK_OUTLINE_INDEX], 3);
-    expect("outline clipped", facts[SILK_OUTLINE_CLIPPED], 0);
-    print_sheet(cells, facts[SILK_HEIGHT], facts[SILK_WIDTH]);
-    expect("the sheet's cells", memcmp(cells, wanted, sizeof cells) != 0, 0);
+    load();
+    expect("run",
+           silk_run(cells, PADDED, ROWS, COLUMNS, palette, PALETTE, 2, 1.0, 1, 2, 25.0, 0, SILK_OUTLINE_AUTO, 0.5,
+                    0, 0, 0, 0, 0, 0, 0, work, 8 * PADDED, facts, SILK_RUN_FACTS),
+           0);
+    expect_outlined();
+    expect("passes", facts[SILK_PASSES], 1);
+    expect("passes again", facts[SILK_PASSES_AGAIN], 0);
 
-    /* refused: a side of 513, and a list of facts that is too short, which change nothing */
-    facts[0] = 7;
-    expect("513 rows", silk_remove_orphans(cells, PADDED, 513, 1, palette, PALETTE, 3, 2, 5, 25.0, work, 8 * PADDED, facts, 0), 1);
-    expect("no room for facts", silk_remove_orphans(cells, PADDED, ROWS, COLUMNS, palette, PALETTE, 3, 2, 5, 25.0, work, 8 * PADDED, facts, 0), 2);
-    expect("a fact after a refusal", facts[0], 7);
-    expect("cells after a refusal", memcmp(cells, wanted, sizeof cells) != 0, 0);
+    /* refused: 513 rows, and a list of facts that is too short; nothing changes */
+    expect("513 rows", clean(513, 1, 0), 1);
+    expect("no room for facts", clean(ROWS, COLUMNS, 0), 2);
+    expect_outlined();
     return 0;
 }

@@ -28,3 +28,16 @@ stored-five (x ∷ y ∷ z ∷ []) a b c d e h = absurd (omega arith)
 stored-five (x ∷ y ∷ []) a b c d e h = absurd (omega arith)
 stored-five (x ∷ []) a b c d e h = absurd (omega arith)
 stored-five [] a b c d e h = absurd (omega arith)
+
+-- two more after five
+pub stored-seven : (l : List ℕ) (a b c d e p q : ℕ) → 7 ≤ length l
+    → set (set (received (given (a ∷ b ∷ c ∷ d ∷ e ∷ [])) l) 5 p) 6 q ≡ received (given (a ∷ b ∷ c ∷ d ∷ e ∷ p ∷ q ∷ [])) l
+unfolding received filled table tableFrom
+stored-seven (x ∷ y ∷ z ∷ u ∷ v ∷ s ∷ t ∷ l) a b c d e p q h = refl
+stored-seven (x ∷ y ∷ z ∷ u ∷ v ∷ s ∷ []) a b c d e p q h = absurd (omega arith)
+stored-seven (x ∷ y ∷ z ∷ u ∷ v ∷ []) a b c d e p q h = absurd (omega arith)
+stored-seven (x ∷ y ∷ z ∷ u ∷ []) a b c d e p q h = absurd (omega arith)
+stored-seven (x ∷ y ∷ z ∷ []) a b c d e p q h = absurd (omega arith)
+stored-seven (x ∷ y ∷ []) a b c d e p q h = absurd (omega arith)
+stored-seven (x ∷ []) a b c d e p q h = absurd (omega arith)
+stored-seven [] a b c d e p q h = absurd (omega arith)

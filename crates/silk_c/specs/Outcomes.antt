@@ -1,7 +1,7 @@
 -- What C gets of an entry: a number, and numbers over the front of a lent list. Definitions only. Assumes nothing.
 use Prim.Native.Nat.{ℕ, _+_}
 use mathlib.Core.Bool.{cond}
-use mathlib.Core.List.{List, [], _∷_}
+use mathlib.Core.List.{List, [], _∷_, _++_}
 use lib.ListN.{length, getD}
 use Rattle.base.specs.Outputs.{filled}
 use Rattle.base.specs.Refusals.{refusal, unless}
@@ -18,6 +18,8 @@ use Rattle.rules.specs.declared.Cleaning.{Cleaning}
 use Rattle.rules.specs.declared.Cleaning.the-variants as cleanings
 use Rattle.rules.specs.declared.Outlining.{Outlining}
 use Rattle.rules.specs.declared.Outlining.the-variants as outlinings
+use Rattle.rules.specs.declared.Processing.{Processing}
+use Rattle.rules.specs.declared.Processing.the-variants as processings
 use Rattle.rules.specs.Rows.{tooLarge, tooShort}
 
 -- a refusal's number, or the numbers that an accepted call hands out
@@ -67,6 +69,11 @@ factsList f = f .height ∷ f .width ∷ f .colours ∷ indexFact (f .«outline_
 unfoldable pub outlined : Outlining → Outcome
 outlined (outlinings.Drawn f) = given (factsList f)
 outlined (outlinings.Refused n) = refused n
+
+-- the same, and the passes of both cleanings
+unfoldable pub processed : Processing → Outcome
+processed (processings.Processed f passes again) = given (factsList f ++ (passes ∷ again ∷ []))
+processed (processings.Refused n) = refused n
 
 -- red, green and blue
 unfoldable pub coloured : Hex → Outcome

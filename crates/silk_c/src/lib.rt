@@ -1,5 +1,5 @@
 // The entries for C, on numbers and slices: each answers 0 for an accepted call, or the refusal's number.
-pub mod told;
+mod told;
 
 use crate::told::facts_rows;
 use crate::told::number;
@@ -7,8 +7,10 @@ use crate::told::tell_colour;
 use crate::told::tell_outline;
 use crate::told::tell_passes;
 use crate::told::tell_regions;
+use crate::told::tell_run;
 use base::Filling;
 use rules::Outline;
+use rules::PostConfig;
 ghost use mathlib.Core.Path.{_≡_};
 ghost use mathlib.Core.List.{[], _∷_};
 ghost use lib.Dec.{ltb};
@@ -18,10 +20,10 @@ ghost use Rattle.color.specs.Entries.{rgb8ToLabRows, rgb8ToLabOut, labToRgb8Row
 ghost use Rattle.color.specs.Hex.{hexToRgb8};
 ghost use Rattle.rules.specs.Palette.{paletteOf};
 ghost use Rattle.rules.specs.Masks.{isSet, regionsAnswer, regionsLabels, maskAnswer, maskLabels, dilationAnswer, dilationOut};
-ghost use Rattle.rules.specs.Entries.{orphansAnswer, orphansCells, jaggiesAnswer, jaggiesCells, outlineAnswer, outlineCells, outlinePalette, saturationAnswer, saturationPalette};
+ghost use Rattle.rules.specs.Entries.{orphansAnswer, orphansCells, jaggiesAnswer, jaggiesCells, outlineAnswer, outlineCells, outlinePalette, saturationAnswer, saturationPalette, runAnswer, runCells, runPalette};
 ghost use Rattle.orphans.specs.Entry.{limitsAt};
-ghost use Rattle.silk_c.specs.Arguments.{outlineOf};
-ghost use Rattle.silk_c.specs.Outcomes.{refused, code, received, heard, done, labelled, cleaned, outlined, coloured};
+ghost use Rattle.silk_c.specs.Arguments.{outlineOf, betaOf, configOf};
+ghost use Rattle.silk_c.specs.Outcomes.{refused, code, received, heard, done, labelled, cleaned, outlined, processed, coloured};
 
 // Colours of sRGB as colours of CIELAB.
 #[no_mangle]
@@ -243,4 +245,91 @@ pub extern "C" fn silk_apply_saturation(palette: &mut [f64], k: usize, beta: f64
     ensures { λ _. ⌜ now (palette .exit) ≡ saturationPalette (paletteOf (now (palette .entry)) k) beta ⌝ }
 {
     number(postprocess::apply_saturation(palette, k, beta))
+}
+
+// Beta, or NaN where the kind of outline is out of range.
+fn beta_of(kind: u32, beta: f64) -> f64
+    ensures { λ x. ⌜ x ≡ betaOf kind beta ⌝ }
+{
+    if 2 < kind { 0.0 / 0.0 } else { beta }
+}
+
+// The settings of `run`.
+fn config_of(
+    beta: f64,
+    remove_orphans: u8,
+    orphan_min_region: i32,
+    orphan_max_delta: f64,
+    fix_jaggies: u8,
+    kind: u32,
+    darken: f64,
+    r: u8,
+    g: u8,
+    b: u8,
+    tileset: u8,
+) -> PostConfig
+    ensures { λ c. ⌜ c ≡ configOf beta «remove_orphans» «orphan_min_region» «orphan_max_delta» «fix_jaggies» kind darken r g b tileset ⌝ }
+{
+    PostConfig {
+        saturation_beta: beta_of(kind, beta),
+        remove_orphans: is_set(remove_orphans),
+        orphan_min_region,
+        orphan_max_delta,
+        fix_jaggies: is_set(fix_jaggies),
+        outline: outline_of(kind, darken, r, g, b),
+        tileset: is_set(tileset),
+    }
+}
+
+// All steps over the lent cells and palette; seven facts: those of an outline, and the passes of both cleanings.
+#[no_mangle]
+pub extern "C" fn silk_run(
+    cells: &mut [i32],
+    h: usize,
+    w: usize,
+    palette: &mut [f64],
+    k: usize,
+    beta: f64,
+    remove_orphans: u8,
+    orphan_min_region: i32,
+    orphan_max_delta: f64,
+    fix_jaggies: u8,
+    kind: u32,
+    darken: f64,
+    r: u8,
+    g: u8,
+    b: u8,
+    tileset: u8,
+    saturated: u8,
+    fixed_palette: u8,
+    outline_margin: i32,
+    work: &mut [u32],
+    facts: &mut [u32],
+) -> u32
+    ensures { λ n. ⌜ n ≡ code (heard h w (length (now (facts .entry))) 7 refused (processed (runAnswer (now (cells .entry)) h w (paletteOf (now (palette .entry)) k) (configOf beta «remove_orphans» «orphan_min_region» «orphan_max_delta» «fix_jaggies» kind darken r g b tileset) (isSet saturated) (isSet «fixed_palette») «outline_margin» (length (now (work .entry)))))) ⌝ }
+    ensures { λ _. ⌜ now (cells .exit) ≡ heard h w (length (now (facts .entry))) 7 (λ n. now (cells .entry)) (runCells (now (cells .entry)) h w (paletteOf (now (palette .entry)) k) (configOf beta «remove_orphans» «orphan_min_region» «orphan_max_delta» «fix_jaggies» kind darken r g b tileset) (isSet saturated) (isSet «fixed_palette») «outline_margin» (length (now (work .entry)))) ⌝ }
+    ensures { λ _. ⌜ now (palette .exit) ≡ heard h w (length (now (facts .entry))) 7 (λ n. now (palette .entry)) (runPalette (now (cells .entry)) h w (paletteOf (now (palette .entry)) k) (configOf beta «remove_orphans» «orphan_min_region» «orphan_max_delta» «fix_jaggies» kind darken r g b tileset) (isSet saturated) (isSet «fixed_palette») «outline_margin» (length (now (work .entry)))) ⌝ }
+    ensures { λ _. ⌜ now (facts .exit) ≡ received (heard h w (length (now (facts .entry))) 7 refused (processed (runAnswer (now (cells .entry)) h w (paletteOf (now (palette .entry)) k) (configOf beta «remove_orphans» «orphan_min_region» «orphan_max_delta» «fix_jaggies» kind darken r g b tileset) (isSet saturated) (isSet «fixed_palette») «outline_margin» (length (now (work .entry)))))) (now (facts .entry)) ⌝ }
+{
+    if let Filling::Refused(n) = facts_rows(h, w, facts.len(), 7) {
+        return n as u32;
+    }
+    let config = config_of(
+        beta,
+        remove_orphans,
+        orphan_min_region,
+        orphan_max_delta,
+        fix_jaggies,
+        kind,
+        darken,
+        r,
+        g,
+        b,
+        tileset,
+    );
+    let toned = is_set(saturated);
+    let fixed = is_set(fixed_palette);
+    let margin = outline_margin;
+    let answer = postprocess::run(cells, h, w, palette, k, config, toned, fixed, margin, work);
+    tell_run(answer, facts)
 }

@@ -6,14 +6,15 @@ use rules::Facts;
 use rules::Labelling;
 use rules::LineIndex;
 use rules::Outlining;
+use rules::Processing;
 ghost use mathlib.Core.Path.{_≡_};
 ghost use mathlib.Core.Bool.{cond};
 ghost use mathlib.Core.List.{[], _∷_};
-ghost use Prim.Native.Nat.{_≤_};
+ghost use Prim.Native.Nat.{ℕ, _≤_};
 ghost use lib.ListN.{length};
 ghost use Rattle.base.specs.Refusals.{refusal, filling};
 ghost use Rattle.rules.specs.Rows.{tooLarge, tooShort};
-ghost use Rattle.silk_c.specs.Outcomes.{given, code, received, done, labelled, cleaned, indexFact, factsList, outlined, coloured};
+ghost use Rattle.silk_c.specs.Outcomes.{given, code, received, done, labelled, cleaned, indexFact, factsList, outlined, processed, coloured};
 ghost use Rattle.silk_c.specs.Room.{Small};
 
 // Rows 1 and 2 of an entry that has a list of facts: a side above 512, or fewer places than facts.
@@ -115,6 +116,24 @@ pub fn tell_outline(answer: Outlining, facts: &mut [u32]) -> u32
         Outlining::Refused(n) => n as u32,
         Outlining::Drawn(f) => {
             put_facts(f, facts);
+            0
+        }
+    }
+}
+
+// The facts of a sheet that was run, and the passes of both cleanings.
+pub fn tell_run(answer: Processing, facts: &mut [u32]) -> u32
+    requires { ⌜ ((f : Facts) (p q : ℕ) → answer ≡ Processing.Processed f p q → Small f) ⌝ }
+    requires { ⌜ 7 ≤ length (now facts) ⌝ }
+    ensures { λ r. ⌜ r ≡ code (processed answer) ⌝ }
+    ensures { λ _. ⌜ now (facts .exit) ≡ received (processed answer) (now (facts .entry)) ⌝ }
+{
+    match answer {
+        Processing::Refused(n) => n as u32,
+        Processing::Processed(f, passes, again) => {
+            put_facts(f, facts);
+            facts[5] = passes;
+            facts[6] = again;
             0
         }
     }
