@@ -4,7 +4,6 @@ use mathlib.Core.Path.{_≡_, refl, sym, ap, _∙_, subst}
 use mathlib.Core.Bool.{Bool, true, false, _&&_, _||_, cond}
 use mathlib.Core.List.{List}
 use mathlib.Core.Option.{none, some}
-use native.Mathlib.Nat.{le-of-eq}
 use native.Mathlib.Omega.{arith}
 use lib.IntN.{ℤ, pos}
 use lib.Signed.{leZ}
@@ -32,6 +31,7 @@ use Rattle.outline.proofs.Refusing.{needed-least, past-3, past-8, not-refused}
 use Rattle.postprocess.proofs.Answers.{refused, granted}
 use Rattle.postprocess.proofs.Refusing.{Call, sheet, allowed, padding, judged, Granted, granting}
 use Rattle.postprocess.proofs.Fronts.{Stands, stands-start, stands-size, stands-sheet, stands-next}
+use Rattle.postprocess.proofs.Holding.{area-same, Holds, reads, keeps, sized}
 use Rattle.postprocess.proofs.Indices.{Named, named, row-clear, tidied-named, cut-named}
 use Rattle.postprocess.proofs.Lines.{Lined, lined}
 
@@ -49,10 +49,6 @@ toned-length false config palette h = filled-length (3 * palette .count) _ (pale
 
 -- ---- sheets alike have a ring alike
 
-area-same : {s t : Sheet} → Alike s t → area t ≡ area s
-unfolding area
-area-same k = rw (k .height, k .width)
-
 ring-alike : {s t : Sheet} → Alike s t → hasRing t ≡ hasRing s
 unfolding hasRing
 ring-alike {s} {t} k = ap (λ (n : ℕ). any n (ring t)) (area-same k) ∙ any-same (area s) (ring t) (ring s) (λ p h. ring-same k p)
@@ -69,36 +65,6 @@ unfolding canvas padded
 canvas-sides true s h w = (omega arith, omega arith)
 canvas-sides false s h w = (omega arith, omega arith)
 
--- ---- what the lent lists hold after a step: a sheet written over the cells at entry, and a palette
-
-pub record Holds (old : List ℤ) (s : Sheet) (p : Palette) (cells : List ℤ) (h w : ℕ) (lab : List Float) (k : ℕ) : Type 0 where
-  pub stands : Stands old s cells
-  pub sheet : sheetOf cells h w ≡ s
-  pub palette : paletteOf lab k ≡ p
-
-module _ {old : List ℤ} {s : Sheet} {p : Palette} {cells : List ℤ} {h w : ℕ} {lab : List Float} {k : ℕ} (a : Holds old s p cells h w lab k) where
-  -- what is read from the lists is read from the sheet and the palette
-  reads : {A : Type 0} (f : Sheet → Palette → A) → f (sheetOf cells h w) (paletteOf lab k) ≡ f s p
-  reads f = ap (λ (t : Sheet). f t (paletteOf lab k)) (a .sheet) ∙ ap (f s) (a .palette)
-
-  -- a step that keeps the sheet's size
-  keeps : (f : Sheet → Palette → Sheet) {new : List ℤ} → Alike s (f s p) → new ≡ over (f (sheetOf cells h w) (paletteOf lab k) .cells) cells
-      → Holds old (f s p) p new h w lab k
-  unfolding sheetOf
-  keeps f {new} l e =
-      let e′ = e ∙ reads (λ t q. over (f t q .cells) cells) in
-      let n = stands-next (a .stands) e′ (l .full) (le-of-eq (sym (area-same l))) (omega (arith, a .stands .fits, area-same l)) in
-      record {
-        stands = n;
-        sheet = stands-sheet h w n (l .height ∙ sym (ap (λ (t : Sheet). t .height) (a .sheet))) (l .width ∙ sym (ap (λ (t : Sheet). t .width) (a .sheet)));
-        palette = a .palette;
-      }
-
-  -- the sheet lies within the list
-  pub sized : h * w ≤ length cells
-  unfolding sheetOf area
-  sized = let e : h * w ≡ area s = ap area (a .sheet) in omega (arith, a .stands .fits, stands-size (a .stands))
-
 -- ---- what the steps of a call come to
 
 -- the three promises of a call, of its answer, of the cells and of the doubles
@@ -114,6 +80,7 @@ unfolding runAnswer runCells runPalette
 met-refused x n e = (refused _ _ n e, (refused _ _ n e, refused _ _ n e))
 
 module _ (x : Call) where
+  -- the palette after saturation; the sheet after the first cleaning, after corners, after the outline, and after the second cleaning
   abbrev pub ink : Palette
   ink = toned (x .saturated || x .fixed) (x .config) (x .palette)
 

@@ -2,6 +2,7 @@ pub mod Answers
 pub mod Chain
 pub mod Conditions
 pub mod Fronts
+pub mod Holding
 pub mod Indices
 pub mod Lines
 pub mod Margins
