@@ -71,7 +71,6 @@ pub fn run(
     ensures { λ r. ⌜ now (cells .exit) ≡ runCells (now (cells .entry)) h w (paletteOf (now (palette .entry)) k) config saturated «fixed_palette» «outline_margin» (length (now (work .entry))) ⌝ }
     ensures { λ r. ⌜ now (palette .exit) ≡ runPalette (now (cells .entry)) h w (paletteOf (now (palette .entry)) k) config saturated «fixed_palette» «outline_margin» (length (now (work .entry))) ⌝ }
 {
-    let room = work.len();
     let refused = run_refusal(
         cells,
         h,
@@ -82,7 +81,7 @@ pub fn run(
         saturated,
         fixed_palette,
         outline_margin,
-        room,
+        work.len(),
     );
     if let Filling::Refused(n) = refused {
         return Processing::Refused(n);
