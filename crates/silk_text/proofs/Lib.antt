@@ -8,3 +8,5 @@ pub mod Digits
 pub mod Printing
 pub mod Cells
 pub mod Outcome
+pub mod Rereading
+pub mod RoundTrip

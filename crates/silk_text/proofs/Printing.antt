@@ -63,7 +63,7 @@ module _ {m n : ℕ} {s t : List ℕ} {at : ℕ} {old mid new : List ℕ} {e f :
 -- ---- loops
 
 -- f i, f (i + 1), .., n of them
-pub eachFrom : ℕ → ℕ → (ℕ → List ℕ) → List ℕ
+unfoldable pub eachFrom : ℕ → ℕ → (ℕ → List ℕ) → List ℕ
 eachFrom i n f = flatMap (λ l. l) (tableFrom i n f)
 
 -- with i of n texts put, each of at most m bytes, the buffer is `now` and the next place `to`
