@@ -10,3 +10,4 @@ pub mod Cells
 pub mod Outcome
 pub mod Rereading
 pub mod RoundTrip
+pub mod Lengths

@@ -2,7 +2,7 @@
 use Prim.Native.Nat.{ℕ, zero, suc, _+_, _*_, _≤_, _<_}
 use mathlib.Core.Path.{_≡_, refl, sym, ap, _∙_}
 use mathlib.Core.List.{List, _++_, append-assoc, flatMap}
-use native.Mathlib.Nat.{add-zero, add-suc, add-comm, zero-mul, suc-mul, mul-le-mul}
+use native.Mathlib.Nat.{add-zero, add-suc, add-comm, zero-mul, suc-mul}
 use native.Mathlib.Omega.{arith}
 use lib.IntN.{ℤ, pos}
 use lib.Ieee.{Float, le, nan}
@@ -15,8 +15,8 @@ use Rattle.color.specs.Lab.{entry, labToRgb8, matVec, rgbFromXyz, xyzOfLab}
 use Rattle.color.specs.declared.Lab.{Lab}
 use Rattle.silk_text.specs.Reader.{got, Reader, chain, _>>=_, give, newline, codes, series, number, cellAt, line, numberLine}
 use Rattle.silk_text.specs.Format.{colourLine, colours, rowLine, rows}
-use Rattle.silk_text.specs.Print.{numeral, cellText, cellsText, numberText, colourText, coloursText, rowText, rowsText, roomFor, each}
-use Rattle.silk_text.specs.Claims.{Reread, InBytes, NumberReread, ColourReread, RowReread, ColoursReread, RowsReread, ListsReread, SheetRoom}
+use Rattle.silk_text.specs.Print.{numeral, cellText, cellsText, numberText, colourText, coloursText, rowText, rowsText, each}
+use Rattle.silk_text.specs.Claims.{Reread, InBytes, NumberReread, ColourReread, RowReread, ColoursReread, RowsReread, ListsReread}
 use Rattle.silk_text.proofs.Chaining.{line-yes}
 use Rattle.silk_text.proofs.Printing.{eachFrom}
 use Rattle.silk_text.proofs.Rereading.{Stops, number-back, cell-at-back, comma-stops, line-stops, bytes-back, colour-back}
@@ -120,9 +120,3 @@ unfolding ListsReread ColoursReread RowsReread Reread
 lists-reread head palette cells d fits rest =
     rw (append-assoc (coloursText palette (head .colours)) (rowsText cells (head .height) (head .width)) rest)
     (lists-yes head _ (colours-reread palette (head .colours) (rowsText cells (head .height) (head .width) ++ rest)) (rows-reread cells (head .height) (head .width) d fits rest))
-
--- ---- room
-
-pub sheet-room : SheetRoom
-unfolding SheetRoom roomFor
-sheet-room facts h w k = omega (arith, mul-le-mul {n₁ = _} {m₁ = 5 + 12 * facts .width} {n₂ = 42} {m₂ = 509} h (omega arith))

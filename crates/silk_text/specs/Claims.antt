@@ -9,10 +9,11 @@ use Rattle.base.specs.Places.{table}
 use Rattle.color.specs.Lab.{entry, labToRgb8}
 use Rattle.color.specs.declared.Rgb8.{Rgb8}
 use Rattle.rules.specs.declared.Facts.{Facts}
+use Rattle.rules.specs.declared.LineIndex as line-index
 use Rattle.silk_text.specs.Reader.{got, Reader, numberLine}
 use Rattle.silk_text.specs.Format.{colourLine, doubles, colours, rowLine, rows, lists}
 use Rattle.silk_text.specs.declared.head.Head.{Head}
-use Rattle.silk_text.specs.Print.{numberText, colourText, coloursText, rowText, rowsText, roomFor}
+use Rattle.silk_text.specs.Print.{numberText, colourText, coloursText, rowText, rowsText, resultText, roomFor, Sized}
 
 -- a reader takes x from the front of whatever begins with the text
 unfoldable pub Reread : {A : Type 0} → Reader A → List ℕ → A → Type 0
@@ -61,6 +62,16 @@ ListsReread =
       palette = flatMap doubles (table (head .colours) (λ i. labToRgb8 (entry palette i)));
       cells = take (head .height * head .width) cells;
     })
+
+-- cells and an index of at most ten digits, as 32 bits hold them
+pub record TenDigits (facts : Facts) (cells : List ℤ) : Type 0 where
+  pub index : (i : ℕ) → facts .«outline_index» ≡ line-index.the-variants.Entry i → i < 10 ^ 10
+  pub cell : (p : ℕ) → natAbs (getD cells p (pos 0)) < 10 ^ 10
+
+-- the room that is asked for holds the text
+unfoldable pub RoomEnough : Type 0
+RoomEnough =
+    (facts : Facts) (palette : List Float) (cells : List ℤ) → Sized facts → TenDigits facts cells → length (resultText facts palette cells) ≤ roomFor facts
 
 -- a sheet of 40 by 40 cells that was padded, with 256 colours, is printed into 32,768 bytes
 unfoldable pub SheetRoom : Type 0

@@ -29,6 +29,7 @@ digitsIn (suc k) n = elim (ltb n 10) [ true ↦ (48 + n) ∷ [] | false ↦ digi
 unfoldable pub numeral : ℕ → List ℕ
 numeral n = digitsIn (suc n) n
 
+-- a cell in decimal, after a minus if it is below 0
 unfoldable pub signedNumeral : ℤ → List ℕ
 signedNumeral (pos n) = numeral n
 signedNumeral (negsuc n) = 45 ∷ numeral (suc n)
@@ -37,9 +38,11 @@ signedNumeral (negsuc n) = 45 ∷ numeral (suc n)
 unfoldable pub hexDigit : ℕ → ℕ
 hexDigit d = cond (ltb d 10) (48 + d) (87 + d)
 
+-- two hex digits, the high one first
 unfoldable pub hexByte : ℕ → List ℕ
 hexByte b = hexDigit (b / 16) ∷ hexDigit (b % 16) ∷ []
 
+-- six hex digits: red, green, blue
 unfoldable pub hexColour : Rgb8 → List ℕ
 hexColour c = hexByte (c .r) ++ hexByte (c .g) ++ hexByte (c .b)
 
@@ -49,17 +52,21 @@ hexColour c = hexByte (c .r) ++ hexByte (c .g) ++ hexByte (c .b)
 unfoldable pub each : ℕ → (ℕ → List ℕ) → List ℕ
 each n f = flatMap (λ l. l) (table n f)
 
+-- a line of a key and a number
 unfoldable pub numberText : List ℕ → ℕ → List ℕ
 numberText key n = key ++ numeral n ++ newline
 
+-- the line of the outline's index
 unfoldable pub indexText : LineIndex → List ℕ
 indexText line-index.the-variants.Nothing = codes "outline_index=none\n"
 indexText (line-index.the-variants.Entry i) = numberText (codes "outline_index=") i
 
+-- the line that tells whether the outline was clipped
 unfoldable pub clippedText : Bool → List ℕ
 clippedText true = codes "outline_clipped=1\n"
 clippedText false = codes "outline_clipped=0\n"
 
+-- the first three heads
 unfoldable pub sizesText : Facts → List ℕ
 sizesText facts =
     numberText (codes "height=") (facts .height)
@@ -70,6 +77,7 @@ sizesText facts =
 unfoldable pub headText : Facts → List ℕ
 headText facts = sizesText facts ++ indexText (facts .«outline_index») ++ clippedText (facts .«outline_clipped»)
 
+-- the line of a colour
 unfoldable pub colourText : Rgb8 → List ℕ
 colourText c = codes "colour=" ++ hexColour c ++ newline
 
@@ -81,21 +89,26 @@ cellText x c = cond (eqb x 0) (signedNumeral c) (44 ∷ signedNumeral c)
 unfoldable pub cellsText : List ℤ → ℕ → ℕ → List ℕ
 cellsText cells from w = each w (λ x. cellText x (getD cells (from + x) (pos 0)))
 
+-- the line of the w cells from a place on
 unfoldable pub rowText : List ℤ → ℕ → ℕ → List ℕ
 rowText cells from w = codes "row=" ++ cellsText cells from w ++ newline
 
+-- the lines of h rows of w cells
 unfoldable pub rowsText : List ℤ → ℕ → ℕ → List ℕ
 rowsText cells h w = each h (λ y. rowText cells (y * w) w)
 
+-- the lines of the first k colours of a palette
 unfoldable pub coloursText : List Float → ℕ → List ℕ
 coloursText palette k = each k (λ i. colourText (labToRgb8 (entry palette i)))
 
 -- ---- what is printed
 
+-- a result: its heads, its colours, its rows
 unfoldable pub resultText : Facts → List Float → List ℤ → List ℕ
 resultText facts palette cells =
     headText facts ++ coloursText palette (facts .colours) ++ rowsText cells (facts .height) (facts .width)
 
+-- a refusal: its number
 unfoldable pub refusalText : ℕ → List ℕ
 refusalText n = numberText (codes "refused=") n
 
@@ -115,6 +128,7 @@ printable facts doubles cells room =
     && leb (facts .height * facts .width) cells
     && leb (roomFor facts) room
 
+-- whether a result is printed, by its lists and the buffer
 unfoldable pub resultFits : Facts → List Float → List ℤ → List ℕ → Bool
 resultFits facts palette cells out = printable facts (length palette) (length cells) (length out)
 

@@ -19,6 +19,7 @@ pub enum Printed {
     Refused(u8),
 }
 
+// One byte.
 fn put_byte(out: &mut [u8], at: usize, b: u8) -> usize
     requires { ⌜ at < length (now out) ⌝ }
     ensures { λ r. ⌜ Put 1 (b ∷ []) at (now (out .entry)) (now (out .exit)) r ⌝ }
@@ -27,6 +28,7 @@ fn put_byte(out: &mut [u8], at: usize, b: u8) -> usize
     at + 1
 }
 
+// Bytes, one after the other.
 fn put_bytes(out: &mut [u8], at: usize, bytes: &[u8]) -> usize
     requires { ⌜ at + length (now bytes) ≤ length (now out) ⌝ }
     ensures { λ r. ⌜ Put (length (now (bytes .entry))) (now (bytes .entry)) at (now (out .entry)) (now (out .exit)) r ⌝ }
@@ -40,6 +42,7 @@ fn put_bytes(out: &mut [u8], at: usize, bytes: &[u8]) -> usize
     at + i
 }
 
+// A decimal digit.
 fn digit(n: usize) -> u8
     requires { ⌜ n < 10 ⌝ }
     ensures { λ r. ⌜ r ≡ 48 + n ⌝ }
@@ -59,6 +62,7 @@ fn put_number(out: &mut [u8], at: usize, n: usize) -> usize
     put_byte(out, next, digit(n % 10))
 }
 
+// A hex digit, lower case.
 fn hex_digit(d: u8) -> u8
     requires { ⌜ d < 16 ⌝ }
     ensures { λ r. ⌜ r ≡ hexDigit d ⌝ }
@@ -69,7 +73,7 @@ fn hex_digit(d: u8) -> u8
     }
 }
 
-// Two hex digits, lower case.
+// Two hex digits.
 fn put_hex_byte(out: &mut [u8], at: usize, b: u8) -> usize
     requires { ⌜ at + 2 ≤ length (now out) ⌝ }
     ensures { λ r. ⌜ Put 2 (hexByte b) at (now (out .entry)) (now (out .exit)) r ⌝ }
@@ -78,6 +82,7 @@ fn put_hex_byte(out: &mut [u8], at: usize, b: u8) -> usize
     put_byte(out, next, hex_digit(b % 16))
 }
 
+// Six hex digits.
 fn put_hex_colour(out: &mut [u8], at: usize, c: Rgb8) -> usize
     requires { ⌜ at + 6 ≤ length (now out) ⌝ }
     ensures { λ r. ⌜ Put 6 (hexColour c) at (now (out .entry)) (now (out .exit)) r ⌝ }
@@ -87,6 +92,7 @@ fn put_hex_colour(out: &mut [u8], at: usize, c: Rgb8) -> usize
     put_hex_byte(out, b, c.b)
 }
 
+// The line of a colour.
 fn put_colour_line(out: &mut [u8], at: usize, c: Rgb8) -> usize
     requires { ⌜ at + 14 ≤ length (now out) ⌝ }
     ensures { λ r. ⌜ Put 14 (colourText c) at (now (out .entry)) (now (out .exit)) r ⌝ }
@@ -96,6 +102,7 @@ fn put_colour_line(out: &mut [u8], at: usize, c: Rgb8) -> usize
     put_bytes(out, end, b"\n")
 }
 
+// Whether a cell is below 0.
 fn is_negative(c: i32) -> bool
     ensures { λ r. ⌜ r ≡ not (nonNeg c) ⌝ }
 {
@@ -114,6 +121,7 @@ fn magnitude(c: i32) -> usize
     z as usize
 }
 
+// A cell in decimal, after a minus if it is below 0.
 fn put_signed(out: &mut [u8], at: usize, c: i32) -> usize
     requires { ⌜ at + 11 ≤ length (now out) ⌝ }
     ensures { λ r. ⌜ Put 11 (signedNumeral c) at (now (out .entry)) (now (out .exit)) r ⌝ }
@@ -153,6 +161,7 @@ fn put_cells(out: &mut [u8], at: usize, cells: &[i32], from: usize, w: usize) ->
     to
 }
 
+// The line of a row.
 fn put_row(out: &mut [u8], at: usize, cells: &[i32], from: usize, w: usize) -> usize
     requires { ⌜ (from + w ≤ length (now cells)) × (at + (5 + 12 * w) ≤ length (now out)) ⌝ }
     ensures { λ r. ⌜ Put (5 + 12 * w) (rowText (now (cells .entry)) from w) at (now (out .entry)) (now (out .exit)) r ⌝ }
@@ -162,6 +171,7 @@ fn put_row(out: &mut [u8], at: usize, cells: &[i32], from: usize, w: usize) -> u
     put_bytes(out, last, b"\n")
 }
 
+// The lines of all rows.
 fn put_rows(out: &mut [u8], at: usize, cells: &[i32], h: usize, w: usize) -> usize
     requires { ⌜ (h * w ≤ length (now cells)) × (at + h * (5 + 12 * w) ≤ length (now out)) ⌝ }
     ensures { λ r. ⌜ Put (h * (5 + 12 * w)) (rowsText (now (cells .entry)) h w) at (now (out .entry)) (now (out .exit)) r ⌝ }
@@ -176,6 +186,7 @@ fn put_rows(out: &mut [u8], at: usize, cells: &[i32], h: usize, w: usize) -> usi
     to
 }
 
+// The lines of all colours.
 fn put_colours(out: &mut [u8], at: usize, palette: &[f64], k: usize) -> usize
     requires { ⌜ (3 * k ≤ length (now palette)) × (at + k * 14 ≤ length (now out)) ⌝ }
     ensures { λ r. ⌜ Put (k * 14) (coloursText (now (palette .entry)) k) at (now (out .entry)) (now (out .exit)) r ⌝ }
@@ -190,6 +201,7 @@ fn put_colours(out: &mut [u8], at: usize, palette: &[f64], k: usize) -> usize
     to
 }
 
+// A line of a key and a number.
 fn put_number_line(out: &mut [u8], at: usize, key: &[u8], n: usize) -> usize
     requires { ⌜ (n < 10 ^ 10) × (at + (length (now key) + 11) ≤ length (now out)) ⌝ }
     ensures { λ r. ⌜ Put (length (now (key .entry)) + 11) (numberText (now (key .entry)) n) at (now (out .entry)) (now (out .exit)) r ⌝ }
@@ -199,6 +211,7 @@ fn put_number_line(out: &mut [u8], at: usize, key: &[u8], n: usize) -> usize
     put_bytes(out, end, b"\n")
 }
 
+// The line of the outline's index.
 fn put_index(out: &mut [u8], at: usize, index: LineIndex) -> usize
     requires { ⌜ at + 25 ≤ length (now out) ⌝ }
     ensures { λ r. ⌜ Put 25 (indexText index) at (now (out .entry)) (now (out .exit)) r ⌝ }
@@ -209,6 +222,7 @@ fn put_index(out: &mut [u8], at: usize, index: LineIndex) -> usize
     }
 }
 
+// The line that tells whether the outline was clipped.
 fn put_clipped(out: &mut [u8], at: usize, clipped: bool) -> usize
     requires { ⌜ at + 18 ≤ length (now out) ⌝ }
     ensures { λ r. ⌜ Put 18 (clippedText clipped) at (now (out .entry)) (now (out .exit)) r ⌝ }
