@@ -12,7 +12,7 @@ use borrow.Author.Tests.{eq-eqb, ne-eqb}
 use lib.Dec.{eqb, ltb}
 use lib.Ieee.{Float, lt}
 use lib.IntN.{ℤ}
-use lib.ListN.{getD}
+use lib.ListN.{getD, replicate, getD-replicate}
 use Rattle.base.specs.Places.{greatest}
 use Rattle.base.proofs.Counting.{case, clash, left, right, both, same-test, eqb-yes, yes-eqb, leb-yes, yes-leb, no-leb, count-yes, greatest-above, greatest-is}
 use Rattle.rules.specs.Regions.{at, index}
@@ -76,6 +76,13 @@ module _ (far : ℕ → Float) (counts : List ℕ) (k m : ℕ) (reach : Float) (
   choice-some z t h =
       rw (ne-eqb (peak counts k) 0 (λ y. z (e ∙ y)))
       (ap (λ (x : Target). decision x reach) h ∙ ap (λ (x : ℕ). decision (nearest far counts x k) reach) e)
+
+-- before the first vote no index has any
+pub peak-none : (k : ℕ) → k ≤ 256 → 0 ≡ peak (replicate 256 0) k
+unfolding peak
+peak-none k l =
+    ⊎-elim sym (λ w. sym (w .3 ∙ getD-replicate 256 (w .0) 0 0 (omega (arith, w .1))))
+    (greatest-is k (λ c. true) (λ c. getD (replicate 256 0) c 0))
 
 pub decision-near : (c : ℕ) (d reach : Float) → lt d reach ≡ true → c + 2 ≡ decision (Index c d) reach
 unfolding decision

@@ -10,7 +10,7 @@ use native.Mathlib.Omega.{arith}
 use lib.Dec.{eqb, leb}
 use lib.Ieee.{Float}
 use lib.IntN.{ℤ}
-use lib.ListN.{length, getD}
+use lib.ListN.{length, getD, replicate}
 use Rattle.base.specs.Places.{table, any, count}
 use Rattle.base.proofs.Counting.{case, clash, both, either, no-leb, left, right, not-true, not-false, same-test, eqb-yes, yes-eqb, leb-yes, yes-leb, table-at, any-yes, yes-any, any-same, count-le, count-same, greatest-is}
 use Rattle.rules.specs.Regions.{at, opaque, index, roots, root, inside, first, Symmetric}
@@ -23,16 +23,13 @@ use Rattle.grid.specs.Planes.{plane, cellsOf, endOf}
 use Rattle.grid.proofs.Places.{area}
 use Rattle.orphans.specs.Choice.{apart, choice}
 use Rattle.grid.proofs.Planes.{cells-size}
-use Rattle.orphans.specs.Polling.{Desk, big, frozenAmong, ballot, Polled}
+use Rattle.orphans.specs.Polling.{Desk, big, bigAround, frozenAmong, ballot, Polled}
 use Rattle.orphans.specs.Passing.{ruleOf, stateOf, code, Indexed, ruled, Judged}
-use Rattle.orphans.proofs.Choosing.{choice-is}
+use Rattle.orphans.proofs.Choosing.{peak-none, choice-none, choice-is}
 use Rattle.orphans.proofs.Regions.{not-empty, lead-below, lead-opaque, lead-first, lead-big, nth-in, any-run, big-is}
 use Rattle.orphans.proofs.Desks.{kept-none, index-is, symmetric}
-use Rattle.orphans.proofs.Votes.{Beside}
-
-neither : (a b : Bool) → (a || b) ≡ false → (a ≡ false) × (b ≡ false)
-neither true b e = clash refl e
-neither false b e = (refl, e)
+use Rattle.orphans.proofs.Nearby.{neither, around-silent, near-none}
+use Rattle.orphans.proofs.Votes.{Beside, tally-start, polled-still}
 
 -- a pending region has no frozen cell
 pending-thawed : (rule : Rule) (v : View) (m : ℕ) → pending rule v m ≡ true → any (rule .places) (λ p. inside (v .cells) (v .root) m p && marked (v .frozen) p) ≡ false
@@ -278,3 +275,13 @@ module _ (h w steps : ℕ) (a : List ℕ) (desk : Desk h w steps a) (t : ℕ) (l
           right = (rw ef at e) ∙ polled-verdict h w steps limit palette reach a desk t counted k (known .below) b counts
               (λ q lq. omega (arith, fresh q lq)) (rw (ef, ends) at u) (known .few) (rw (ef, ends) at (no-leb {m = limit} {n = to - from} (z .0))) (rw (ef, ends) at (z .1));
         }
+
+    -- no neighbour is of a large region: the poll would change nothing
+    pub judged-silent : (k : ℕ) → Indexed (h * w) k a → false ≡ (leb limit (to - from) || frozenAmong (h * w) a from (to - from)) →
+        bigAround (h * w) w limit a from (to - from) ≡ false → Judged (ruleOf h w steps limit palette reach) (h * w) t a a 0
+    judged-silent k known y z =
+        judged-polled k known y a (replicate 256 0)
+        (polled-still (h * w) limit (t + 1) a (replicate 256 0) (tally-start (h * w) (t + 1) a (λ q l. omega (arith, fresh q l)))
+        (λ q l b large. clash large (near-none h w steps limit (desk .ways) a (plane (h * w) 2 a (b .0)) q l (b .3)
+        (rw (let e : from + (b .0 - from) ≡ b .0 = omega (arith, b .1) in e) at (around-silent (h * w) limit a w from (to - from) z (b .0 - from) (omega (arith, b .1, b .2)))))))
+        0 (choice-none _ (replicate 256 0) k 0 reach (peak-none k (known .few)) refl)

@@ -37,16 +37,20 @@ tally-start n m a fresh = record {
 }
 
 module _ (n limit m : ℕ) where
-  -- nobody is asked
-  pub polled-none : (a counts : List ℕ) → Tallied n a m counts → Polled n limit m (λ q. ⊥) a a counts
-  polled-none a counts t = record {
+  -- whoever is asked has no vote or has voted
+  pub polled-still : {A : ℕ → Type 0} (a counts : List ℕ) → Tallied n a m counts → ((q : ℕ) → q < n → A q → big n limit a q ≡ true → plane n 5 a q ≡ m) → Polled n limit m A a a counts
+  polled-still a counts t f = record {
     kept = kept-none n a;
     rest = λ q h. refl;
     tally = t;
     stays = λ q h e. e;
     marks = λ q h. inl refl;
-    heard = λ q h z. absurd z;
+    heard = f;
   }
+
+  -- nobody is asked
+  pub polled-none : (a counts : List ℕ) → Tallied n a m counts → Polled n limit m (λ q. ⊥) a a counts
+  polled-none a counts t = polled-still a counts t (λ q h z. absurd z)
 
   -- these are asked, and then those
   pub polled-and : {A B : ℕ → Type 0} {a b c : List ℕ} (counts counts′ : List ℕ) → ((q : ℕ) → q < n → big n limit b q ≡ big n limit a q) → Polled n limit m A a b counts → Polled n limit m B b c counts′ → Polled n limit m (λ q. A q ⊎ B q) a c counts′
@@ -75,14 +79,7 @@ module _ (n limit m : ℕ) where
   module _ (q : ℕ) (lq : q < n) (a counts : List ℕ) (t : Tallied n a m counts) where
     -- q is asked, and has no vote or has voted
     pub polled-silent : (big n limit a q ≡ true → plane n 5 a q ≡ m) → Polled n limit m (λ x. x ≡ q) a a counts
-    polled-silent f = record {
-      kept = kept-none n a;
-      rest = λ x h. refl;
-      tally = t;
-      stays = λ x h e. e;
-      marks = λ x h. inl refl;
-      heard = λ x h e b. rw e (f (rw e at b));
-    }
+    polled-silent f = polled-still a counts t (λ x h e b. rw e (f (rw e at b)))
 
     -- q is asked, and votes for c
     module _ (c i : ℕ) (e : i ≡ 5 * n + q) (li : i < length a) (large : big n limit a q ≡ true) (free : plane n 5 a q ≡ m → ⊥)

@@ -2,9 +2,9 @@
 use Prim.Native.Nat.{ℕ, _+_, _-_, _*_, _≤_, _<_}
 use mathlib.Core.Path.{_≡_}
 use mathlib.Core.Logic.{_⊎_}
-use mathlib.Core.Bool.{Bool, true, not, _&&_}
+use mathlib.Core.Bool.{Bool, true, not, _&&_, _||_}
 use mathlib.Core.List.{List}
-use lib.Dec.{eqb, leb}
+use lib.Dec.{eqb, leb, ltb}
 use lib.ListN.{length, getD}
 use Rattle.base.specs.Places.{any, count}
 use Rattle.grid.specs.Steps.{hood}
@@ -37,6 +37,19 @@ sizeOf n work l = endOf n work l - endOf n work (l - 1)
 -- q lies in a region of at least `limit` cells
 unfoldable pub big : ℕ → ℕ → List ℕ → ℕ → Bool
 big n limit work q = not (eqb (plane n 1 work q) 0) && leb limit (sizeOf n work (plane n 1 work q))
+
+-- one of the three cells from q on does
+unfoldable pub bigRow : ℕ → ℕ → List ℕ → ℕ → Bool
+bigRow n limit work q = big n limit work q || big n limit work (q + 1) || big n limit work (q + 2)
+
+-- one of the cells in the three rows of three around p does, or these do not all stand between the first and the last place
+unfoldable pub bigNear : ℕ → ℕ → ℕ → List ℕ → ℕ → Bool
+bigNear n w limit work p =
+    ltb p (w + 1) || leb n (p + (w + 1)) || bigRow n limit work (p - (w + 1)) || bigRow n limit work (p - 1) || bigRow n limit work (p + (w + 1) - 2)
+
+-- that is so for some of the places from `from` on, `many` of them
+unfoldable pub bigAround : ℕ → ℕ → ℕ → List ℕ → ℕ → ℕ → Bool
+bigAround n w limit work from many = any many (λ i. bigNear n w limit work (plane n 2 work (from + i)))
 
 -- some of the places from `from` on, `many` of them, is frozen
 unfoldable pub frozenAmong : ℕ → List ℕ → ℕ → ℕ → Bool

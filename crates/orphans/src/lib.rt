@@ -23,7 +23,7 @@ ghost use Rattle.grid.specs.Planes.{plane, cellsOf, endOf};
 ghost use Rattle.grid.specs.Filling.{Sized};
 ghost use Rattle.orphans.specs.Entry.{Fit, limitsAt};
 ghost use Rattle.orphans.specs.Passing.{ruleOf, Indexed, Judged, Decided, Settled, Coloured, Wiped, Passed, CleanedTo};
-ghost use Rattle.orphans.specs.Polling.{Desk, Ready, big, frozenAmong, Tallied, Polled};
+ghost use Rattle.orphans.specs.Polling.{Desk, Ready, big, bigRow, bigNear, bigAround, frozenAmong, Tallied, Polled};
 use base::Filling;
 use checks::bad_colour;
 use checks::bad_palette;
@@ -130,6 +130,64 @@ fn is_large(work: &[u32], n: usize, q: usize, limit: u32) -> bool
     let from = region_end(work, n, last);
     let to = region_end(work, n, label);
     limit <= to - from
+}
+
+// Whether one of the three cells from q on lies in a large region.
+fn large_in_row(work: &[u32], n: usize, q: usize, limit: u32) -> bool
+    requires { ⌜ Ready n (now work) ⌝ }
+    requires { ⌜ q + 2 < n ⌝ }
+    ensures { λ r. ⌜ r ≡ bigRow n limit (now (work .entry)) q ⌝ }
+{
+    if is_large(work, n, q, limit) {
+        return true;
+    }
+    let next = q + 1;
+    if is_large(work, n, next, limit) {
+        return true;
+    }
+    let last = q + 2;
+    is_large(work, n, last, limit)
+}
+
+// Whether a cell of a large region may be beside the place p: one is near, or p is too near the first or last place to look.
+fn large_near(work: &[u32], n: usize, w: usize, p: usize, limit: u32) -> bool
+    requires { ⌜ Ready n (now work) ⌝ }
+    requires { ⌜ (p < n) × (w ≤ 514) ⌝ }
+    ensures { λ r. ⌜ r ≡ bigNear n w limit (now (work .entry)) p ⌝ }
+{
+    let reach = w + 1;
+    if p < reach {
+        return true;
+    }
+    let far = p + reach;
+    if n <= far {
+        return true;
+    }
+    let above = p - reach;
+    if large_in_row(work, n, above, limit) {
+        return true;
+    }
+    let before = p - 1;
+    if large_in_row(work, n, before, limit) {
+        return true;
+    }
+    let below = far - 2;
+    large_in_row(work, n, below, limit)
+}
+
+// Whether a cell of a large region may be beside one of the places from `from` on, `many` of them.
+fn large_around(work: &[u32], n: usize, w: usize, from: usize, many: usize, limit: u32) -> bool
+    requires { ⌜ Ready n (now work) ⌝ }
+    requires { ⌜ (w ≤ 514) × (from + many ≤ n) × ((i : ℕ) → i < many → plane n 2 (now work) (from + i) < n) ⌝ }
+    ensures { λ r. ⌜ r ≡ bigAround n w limit (now (work .entry)) from many ⌝ }
+{
+    for i in 0..many {
+        let p = work[2 * n + from + i] as usize;
+        if large_near(work, n, w, p, limit) {
+            return true;
+        }
+    }
+    false
 }
 
 // The cell q votes, if it is of a large region and has not voted.
@@ -284,6 +342,9 @@ fn verdict(
     let to = region_end(work, n, label) as usize;
     let many = to - from;
     if spared(work, n, from, many, limit) {
+        return 0;
+    }
+    if !large_around(work, n, w, from, many, limit) {
         return 0;
     }
     let own = own_index(work, n, from);

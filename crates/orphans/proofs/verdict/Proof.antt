@@ -3,8 +3,10 @@ use Prim.Native.Nat.{ℕ, _+_, _*_, _≤_, _<_}
 use mathlib.Core.Path.{sym, _∙_}
 use native.Mathlib.Omega.{arith}
 use borrow.Author.Needs.{needs}
+use borrow.Author.Tests.{not-true}
+use Rattle.orphans.proofs.Desks.{desk-ready}
 use Rattle.orphans.proofs.Votes.{tally-start}
-use Rattle.orphans.proofs.Verdicts.{Run, run-at, judged-spared, judged-polled, in-range}
+use Rattle.orphans.proofs.Verdicts.{Run, run-at, judged-spared, judged-polled, judged-silent, in-range}
 use Rattle.orphans.proofs.verdict.Statement.{statement}
 use Rattle.orphans.proofs.verdict.Tie as tie
 
@@ -68,17 +70,40 @@ returns c =
 abbrev found : tie.Else1 → tie.After-region-end2
 found c = c .before .before .before
 
+large-around-requires : tie.Need-large-around-requires
+large-around-requires c κs =
+    let e = found (c .before) in
+    let s = start e in
+    let r = run e in
+    (desk-ready (s .args .h) (s .args .w) (s .args .steps) (s .args .work .now) (s .pre .0), (s .pre .0 .cols, omega (arith, r .some, r .end), (λ i l. r .places (from e + i) (omega arith))))
+
+same-length-2 : tie.Need-same-length-2
+same-length-2 c = search needs
+
+returns-2 : tie.Need-returns-2
+returns-2 c =
+    let a = c .before in
+    let e = a .before .before in
+    let f = found e in
+    let s = start f in
+    judged-silent (s .args .h) (s .args .w) (s .args .steps) (s .args .work .now) (s .pre .0) (s .args .at) (s .pre .1 .1 .0) (from f) (to f)
+    (f .before .before .region-end .ensures) (f .region-end2 .ensures) (s .args .limit) (s .args .palette .now) (s .args .max-delta) (s .pre .1 .1 .1)
+    (s .args .k) (s .pre .1 .0 .0) (sym (e .if1 .left) ∙ e .before .spared .ensures) (sym (a .large-around .ensures) ∙ not-true (a .large-around .result) (c .if2 .taken))
+
+abbrev unspared : tie.Else2 → tie.Else1
+unspared c = c .before .before .before
+
 own-index-requires : tie.Need-own-index-requires
-own-index-requires c κs = let r = run (found (c .before)) in (r .room, omega (arith, r .some, r .end), r .lead, r .painted)
+own-index-requires c κs = let r = run (found (unspared (c .before))) in (r .room, omega (arith, r .some, r .end), r .lead, r .painted)
 
 cast-poll : tie.Need-cast-poll
-cast-poll c = omega (arith, few-labels (start (found (c .before .before .before))))
+cast-poll c = omega (arith, few-labels (start (found (unspared (c .before .before .before)))))
 
 poll-requires : tie.Need-poll-requires
 poll-requires c κs =
-    let e = c .before .before .before .before in
-    let s = start (found e) in
-    let r = run (found e) in (
+    let f = found (unspared (c .before .before .before .before)) in
+    let s = start f in
+    let r = run f in (
       s .pre .0,
       (
         (omega (arith, r .some), r .end, r .places),
@@ -89,20 +114,20 @@ poll-requires c κs =
 choice-requires : tie.Need-choice-requires
 choice-requires c κs =
     let o = c .before .before .before .before .before .before in
-    let f = found (o .before .before) in
+    let f = found (unspared (o .before .before)) in
     let s = start f in
     let k = s .pre .1 .0 .0 in
     let r = run f in
     (k .few, omega (arith, o .own-index .ensures, r .painted, k .below _ (r .lead)), s .pre .1 .0 .1)
 
-same-length-2 : tie.Need-same-length-2
-same-length-2 c = search needs
+same-length-3 : tie.Need-same-length-3
+same-length-3 c = search needs
 
-returns-2 : tie.Need-returns-2
-returns-2 c =
+returns-3 : tie.Need-returns-3
+returns-3 c =
     let p = c .before .before .before .before in
     let o = p .before .before .before in
-    let e = o .before .before in
+    let e = unspared (o .before .before) in
     let f = found e in
     let s = start f in
     judged-polled (s .args .h) (s .args .w) (s .args .steps) (s .args .work .now) (s .pre .0) (s .args .at) (s .pre .1 .1 .0) (from f) (to f)
@@ -124,9 +149,12 @@ verdict-spec =
     spared-requires
     same-length
     returns
+    large-around-requires
+    same-length-2
+    returns-2
     own-index-requires
     cast-poll
     poll-requires
     choice-requires
-    same-length-2
-    returns-2)
+    same-length-3
+    returns-3)
