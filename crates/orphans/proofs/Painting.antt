@@ -2,21 +2,21 @@
 use Prim.Native.Nat.{ℕ, zero, suc, _+_, _-_, _*_, _≤_, _<_}
 use mathlib.Core.Path.{_≡_, refl, sym, ap, _∙_, subst}
 use mathlib.Core.Logic.{inl, inr, ⊎-elim}
-use mathlib.Core.Bool.{Bool, true, false, _||_}
+use mathlib.Core.Bool.{Bool, true, false, not, _||_}
 use mathlib.Core.List.{List}
 use native.Mathlib.Nat.{not-suc-le-zero}
 use native.Mathlib.Decide.{ℕ-discrete}
 use native.Mathlib.Numerals.{add-one}
 use native.Mathlib.Omega.{arith}
-use borrow.Author.Tests.{lt-ltb, le-ltb, le-leb}
-use lib.Dec.{leb, ltb}
+use borrow.Author.Tests.{lt-ltb, le-ltb, le-leb, eq-eqb, ne-eqb}
+use lib.Dec.{leb, ltb, eqb}
 use lib.ListN.{length, set, length-set}
 use lib.Seq.{getD-set-same, getD-set-other}
 use Rattle.base.specs.Places.{any}
-use Rattle.base.proofs.Counting.{same-test, leb-yes, yes-leb}
+use Rattle.base.proofs.Counting.{case, same-test, eqb-yes, leb-yes, yes-leb, any-yes, any-no, yes-any}
 use Rattle.grid.specs.Planes.{plane}
 use Rattle.grid.proofs.Planes.{plane-same, plane-else, plane-other}
-use Rattle.orphans.specs.Passing.{numberOf, numberAt, Settled, paintBy, iceBy, Coloured, Wiped}
+use Rattle.orphans.specs.Passing.{acts, numberOf, numberAt, Settled, paintBy, iceBy, Coloured, Wiped}
 
 -- ---- wiping
 
@@ -32,6 +32,10 @@ wiped-on s i a b u h = record {
   ];
   outside = λ j l. getD-set-other b (s + i) j 0 0 (λ e. ⊎-elim (λ y. omega arith) (λ y. omega arith) l) ∙ u .outside j (⊎-elim inl (λ y. inr (omega arith)) l);
 }
+
+not-not : {b : Bool} → not b ≡ false → b ≡ true
+not-not {b = true} e = refl
+not-not {b = false} e = sym e
 
 -- ---- the number of a place
 
@@ -52,6 +56,42 @@ number-same n a b f (suc k) h = f k (omega arith)
 pub number-some : (n : ℕ) (a : List ℕ) (p : ℕ) → (plane n 1 a p ≡ 0 → ⊥) → numberAt n a p ≡ plane n 6 a (plane n 1 a p - 1)
 unfolding numberAt
 number-some n a p z = number-read n a (plane n 1 a p) z
+
+-- ---- looking for a verdict other than to stay
+
+module _ (n : ℕ) (a : List ℕ) where
+  abbrev moving : ℕ → Bool
+  moving t = not (eqb (plane n 6 a t) 0)
+
+  pub acts-start : acts n a 0 ≡ false
+  unfolding acts any
+  acts-start = refl
+
+  pub acts-found : (t count : ℕ) → t < count → (plane n 6 a t ≡ 0 → ⊥) → true ≡ acts n a count
+  unfolding acts
+  acts-found t count l z = sym (yes-any count moving t l (rw (ne-eqb (plane n 6 a t) 0 z)))
+
+  pub acts-more : (t : ℕ) → acts n a t ≡ false → plane n 6 a t ≡ 0 → acts n a (t + 1) ≡ false
+  unfolding acts any
+  acts-more t e z = rw (add-one t, eq-eqb (plane n 6 a t) 0 z) e
+
+  idle-number : (count : ℕ) → acts n a count ≡ false → (l : ℕ) → l ≤ count → numberOf n a l ≡ 0
+  unfolding acts numberOf
+  idle-number count e zero h = refl
+  idle-number count e (suc t) h = eqb-yes (not-not (any-no count moving e t h))
+
+  -- with none no place changes
+  pub coloured-idle : (count : ℕ) → acts n a count ≡ false → ((p : ℕ) → p < n → plane n 1 a p ≤ count) → Coloured n n a a false
+  unfolding numberAt paintBy iceBy
+  coloured-idle count e h = record {
+    len = refl;
+    label = λ p l. refl;
+    number = λ p l. refl;
+    paint = λ p l. rw (lt-ltb p n l, idle-number count e (plane n 1 a p) (h p l));
+    ice = λ p l. rw (lt-ltb p n l, idle-number count e (plane n 1 a p) (h p l));
+    some = case (any n (λ p. leb 2 (numberAt n a p)))
+        (λ y. let w = any-yes n (λ p. leb 2 (numberAt n a p)) y in let f : 2 ≤ numberOf n a (plane n 1 a (w .0)) = leb-yes (w .2) in absurd (omega (arith, idle-number count e (plane n 1 a (w .0)) (h (w .0) (w .1))))) sym;
+  }
 
 pub settled-takes : (n p v : ℕ) (a : List ℕ) → numberAt n a p ≡ v → (v ≡ 0 → ⊥) → (v ≡ 1 → ⊥) → Settled n p a (set a p (v - 1)) true
 settled-takes n p v a e y z =

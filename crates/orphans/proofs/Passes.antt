@@ -25,7 +25,7 @@ use Rattle.grid.specs.Filling.{Sized}
 use Rattle.grid.proofs.Planes.{cells-size, cells-at}
 use Rattle.orphans.specs.Polling.{Desk, Kept}
 use Rattle.orphans.specs.Passing.{ruleOf, stateOf, code, Indexed, ruled, Decided, numberOf, numberAt, paintBy, iceBy, Coloured, Wiped, Passed}
-use Rattle.orphans.proofs.Regions.{label-in, labelled, root-lead}
+use Rattle.orphans.proofs.Regions.{regions-le, label-in, labelled, root-lead}
 use Rattle.grid.specs.declared.Tally.{Tally}
 use Rattle.orphans.proofs.Desks.{table-same, cells-kept, index-is, symmetric, desk-ready, desk-kept}
 use Rattle.orphans.proofs.Deciding.{indexed-kept, state-kept}
@@ -223,6 +223,16 @@ module _ {h w steps k : ℕ} {a c : List ℕ} {count : ℕ} (sought : Sought h w
   paint-ready =
       let r = desk-ready h w steps d (desk-kept h w steps c (sought .desk) d (decided .kept)) in
       (r .room, r .named)
+
+  -- a label is one of the regions, and these are not more than the places
+  pub counted : (count ≤ h * w) × ((p : ℕ) → p < h * w → plane (h * w) 1 d p ≤ count)
+  counted =
+      let n = h * w in
+      let u = desk-kept h w steps c (sought .desk) d (decided .kept) in
+      let e : count ≡ u .regions = sought .full ∙ ap (regions n (hood steps w)) (sym (cells-kept (decided .kept))) ∙ sym (u .labelled .count) in (
+        omega (arith, regions-le n (hood steps w) (cellsOf n d) d (u .regions) (u .taken) (cells-size n d) (symmetric h w steps d u) (u .labelled)),
+        (λ p l. omega (arith, label-in n (hood steps w) (cellsOf n d) d (u .regions) (u .taken) (cells-size n d) (symmetric h w steps d u) (u .labelled) p l)),
+      )
 
   pub passed : {e : List ℕ} {moved : Bool} → Coloured (h * w) (h * w) d e moved → Passed (ruleOf h w steps limit palette reach) (h * w) k a e moved
   passed {e} {moved} u = record {

@@ -60,6 +60,10 @@ pub record Decided (rule : Rule) (n count : ℕ) (a b : List ℕ) : Type 0 where
   pub marks : (q : ℕ) → q < n → plane n 5 b q ≤ count
   pub right : (at : ℕ) → at < count → plane n 6 b at ≡ ruled rule n a at
 
+-- one of the first `count` regions has a verdict other than to stay
+unfoldable pub acts : ℕ → List ℕ → ℕ → Bool
+acts n work count = any count (λ at. not (eqb (plane n 6 work at) 0))
+
 -- the number of the verdict on the region with a label; none for the label 0
 unfoldable pub numberOf : ℕ → List ℕ → ℕ → ℕ
 numberOf n work zero = 0

@@ -22,7 +22,7 @@ ghost use Rattle.rules.specs.Sheet.{sheetOf, over};
 ghost use Rattle.grid.specs.Planes.{plane, cellsOf, endOf};
 ghost use Rattle.grid.specs.Filling.{Sized};
 ghost use Rattle.orphans.specs.Entry.{Fit, limitsAt};
-ghost use Rattle.orphans.specs.Passing.{ruleOf, Indexed, Judged, Decided, Settled, Coloured, Wiped, Passed, CleanedTo};
+ghost use Rattle.orphans.specs.Passing.{ruleOf, Indexed, Judged, Decided, acts, Settled, Coloured, Wiped, Passed, CleanedTo};
 ghost use Rattle.orphans.specs.Polling.{Desk, Ready, big, bigRow, bigNear, bigAround, frozenAmong, Tallied, Polled};
 use base::Filling;
 use checks::bad_colour;
@@ -387,6 +387,19 @@ fn decide_all(
     }
 }
 
+// Whether one of the first `count` verdicts is another than to stay.
+fn any_verdict(work: &[u32], n: usize, count: usize) -> bool
+    requires { ⌜ (8 * n ≤ length (now work)) × (count ≤ n) ⌝ }
+    ensures { λ r. ⌜ r ≡ acts n (now (work .entry)) count ⌝ }
+{
+    for at in 0..count {
+        if work[6 * n + at] != 0 {
+            return true;
+        }
+    }
+    false
+}
+
 // The place p takes the verdict on its region. Whether it is repainted.
 fn settle(work: &mut [u32], n: usize, p: usize) -> bool
     requires { ⌜ (8 * n ≤ length (now work)) × (p < n) × (plane n 1 (now work) p ≤ n) ⌝ }
@@ -453,6 +466,9 @@ fn pass(
     let count = t.regions as usize;
     wipe(work, 5 * n, n);
     decide_all(work, h, w, steps, palette, k, limit, max_delta, count);
+    if !any_verdict(work, n, count) {
+        return false;
+    }
     paint(work, n)
 }
 
