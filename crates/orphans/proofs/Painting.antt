@@ -8,7 +8,7 @@ use native.Mathlib.Nat.{not-suc-le-zero}
 use native.Mathlib.Decide.{ℕ-discrete}
 use native.Mathlib.Numerals.{add-one}
 use native.Mathlib.Omega.{arith}
-use borrow.Author.Tests.{lt-ltb, le-ltb, le-leb, eq-eqb, ne-eqb}
+use borrow.Author.Tests.{lt-ltb, le-ltb, le-leb, eq-eqb, ne-eqb, not-false}
 use lib.Dec.{leb, ltb, eqb}
 use lib.ListN.{length, set, length-set}
 use lib.Seq.{getD-set-same, getD-set-other}
@@ -32,10 +32,6 @@ wiped-on s i a b u h = record {
   ];
   outside = λ j l. getD-set-other b (s + i) j 0 0 (λ e. ⊎-elim (λ y. omega arith) (λ y. omega arith) l) ∙ u .outside j (⊎-elim inl (λ y. inr (omega arith)) l);
 }
-
-not-not : {b : Bool} → not b ≡ false → b ≡ true
-not-not {b = true} e = refl
-not-not {b = false} e = sym e
 
 -- ---- the number of a place
 
@@ -78,7 +74,7 @@ module _ (n : ℕ) (a : List ℕ) where
   idle-number : (count : ℕ) → acts n a count ≡ false → (l : ℕ) → l ≤ count → numberOf n a l ≡ 0
   unfolding acts numberOf
   idle-number count e zero h = refl
-  idle-number count e (suc t) h = eqb-yes (not-not (any-no count moving e t h))
+  idle-number count e (suc t) h = eqb-yes (not-false (eqb (plane n 6 a t) 0) (any-no count moving e t h))
 
   -- with none no place changes
   pub coloured-idle : (count : ℕ) → acts n a count ≡ false → ((p : ℕ) → p < n → plane n 1 a p ≤ count) → Coloured n n a a false

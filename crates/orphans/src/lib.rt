@@ -348,18 +348,9 @@ fn verdict(
         return 0;
     }
     let own = own_index(work, n, from);
+    let mark = label as u32;
     let mut counts = [0u32; 256];
-    poll(
-        work,
-        h,
-        w,
-        steps,
-        from,
-        to,
-        limit,
-        label as u32,
-        &mut counts,
-    );
+    poll(work, h, w, steps, from, to, limit, mark, &mut counts);
     choice(&counts, palette, k, own, max_delta)
 }
 

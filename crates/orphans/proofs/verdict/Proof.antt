@@ -96,8 +96,8 @@ unspared c = c .before .before .before
 own-index-requires : tie.Need-own-index-requires
 own-index-requires c κs = let r = run (found (unspared (c .before))) in (r .room, omega (arith, r .some, r .end), r .lead, r .painted)
 
-cast-poll : tie.Need-cast-poll
-cast-poll c = omega (arith, few-labels (start (found (unspared (c .before .before .before)))))
+cast-mark : tie.Need-cast-mark
+cast-mark c = omega (arith, few-labels (start (found (unspared (c .before .before)))))
 
 poll-requires : tie.Need-poll-requires
 poll-requires c κs =
@@ -153,7 +153,7 @@ verdict-spec =
     same-length-2
     returns-2
     own-index-requires
-    cast-poll
+    cast-mark
     poll-requires
     choice-requires
     same-length-3
