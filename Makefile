@@ -9,19 +9,22 @@ CFLAGS = -std=c11 -Wall -Wextra -Wpedantic -Werror
 SHARED = ../shared
 CASES = 20000
 COMPARE = target/cargo/release/compare
+LIB = target/staticlib/libsilk_c.a
 
-test: example
+test:
+	@if command -v $(CC) >/dev/null; then $(MAKE) -s example; else echo 'no C compiler: examples/c is left out'; fi
 	@rt fmt --check
 	@rt ci
 
 run:
 	@rt check vectors_color vectors_grid vectors_sheet
 
-lib:
+lib: $(LIB)
+$(LIB): crates.txt $(shell find crates -name '*.rt' -o -name '*.antt')
 	@rt staticlib silk_c
 
 example: lib
-	@$(CC) $(CFLAGS) -I include examples/c/clean.c target/staticlib/libsilk_c.a -o target/clean
+	@$(CC) $(CFLAGS) -I include examples/c/clean.c $(LIB) -o target/clean
 	@target/clean
 
 compared: lib
