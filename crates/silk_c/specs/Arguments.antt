@@ -18,14 +18,14 @@ unfoldable pub betaOf : ℕ → Float → Float
 betaOf kind beta = cond (ltb 2 kind) nan beta
 
 -- the settings of `run`
-unfoldable pub configOf : Float → ℕ → ℤ → Float → ℕ → ℕ → Float → ℕ → ℕ → ℕ → ℕ → PostConfig
-configOf beta orphans region delta jaggies kind darken r g b tileset =
+unfoldable pub configOf : Float → ℕ → ℤ → Float → ℕ → Outline → ℕ → PostConfig
+configOf beta orphans region delta jaggies outline tileset =
     record {
-      «saturation_beta» = betaOf kind beta;
+      «saturation_beta» = beta;
       «remove_orphans» = isSet orphans;
       «orphan_min_region» = region;
       «orphan_max_delta» = delta;
       «fix_jaggies» = isSet jaggies;
-      outline = outlineOf kind darken r g b;
+      outline = outline;
       tileset = isSet tileset;
     }

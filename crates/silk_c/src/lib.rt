@@ -261,22 +261,18 @@ fn config_of(
     orphan_min_region: i32,
     orphan_max_delta: f64,
     fix_jaggies: u8,
-    kind: u32,
-    darken: f64,
-    r: u8,
-    g: u8,
-    b: u8,
+    outline: Outline,
     tileset: u8,
 ) -> PostConfig
-    ensures { λ c. ⌜ c ≡ configOf beta «remove_orphans» «orphan_min_region» «orphan_max_delta» «fix_jaggies» kind darken r g b tileset ⌝ }
+    ensures { λ c. ⌜ c ≡ configOf beta «remove_orphans» «orphan_min_region» «orphan_max_delta» «fix_jaggies» outline tileset ⌝ }
 {
     PostConfig {
-        saturation_beta: beta_of(kind, beta),
+        saturation_beta: beta,
         remove_orphans: is_set(remove_orphans),
         orphan_min_region,
         orphan_max_delta,
         fix_jaggies: is_set(fix_jaggies),
-        outline: outline_of(kind, darken, r, g, b),
+        outline,
         tileset: is_set(tileset),
     }
 }
@@ -290,10 +286,10 @@ pub extern "C" fn silk_run(
     palette: &mut [f64],
     k: usize,
     beta: f64,
-    remove_orphans: u8,
-    orphan_min_region: i32,
-    orphan_max_delta: f64,
-    fix_jaggies: u8,
+    orphans: u8,
+    region: i32,
+    delta: f64,
+    jaggies: u8,
     kind: u32,
     darken: f64,
     r: u8,
@@ -302,34 +298,23 @@ pub extern "C" fn silk_run(
     tileset: u8,
     saturated: u8,
     fixed_palette: u8,
-    outline_margin: i32,
+    margin: i32,
     work: &mut [u32],
     facts: &mut [u32],
 ) -> u32
-    ensures { λ n. ⌜ n ≡ code (heard h w (length (now (facts .entry))) 7 refused (processed (runAnswer (now (cells .entry)) h w (paletteOf (now (palette .entry)) k) (configOf beta «remove_orphans» «orphan_min_region» «orphan_max_delta» «fix_jaggies» kind darken r g b tileset) (isSet saturated) (isSet «fixed_palette») «outline_margin» (length (now (work .entry)))))) ⌝ }
-    ensures { λ _. ⌜ now (cells .exit) ≡ heard h w (length (now (facts .entry))) 7 (λ n. now (cells .entry)) (runCells (now (cells .entry)) h w (paletteOf (now (palette .entry)) k) (configOf beta «remove_orphans» «orphan_min_region» «orphan_max_delta» «fix_jaggies» kind darken r g b tileset) (isSet saturated) (isSet «fixed_palette») «outline_margin» (length (now (work .entry)))) ⌝ }
-    ensures { λ _. ⌜ now (palette .exit) ≡ heard h w (length (now (facts .entry))) 7 (λ n. now (palette .entry)) (runPalette (now (cells .entry)) h w (paletteOf (now (palette .entry)) k) (configOf beta «remove_orphans» «orphan_min_region» «orphan_max_delta» «fix_jaggies» kind darken r g b tileset) (isSet saturated) (isSet «fixed_palette») «outline_margin» (length (now (work .entry)))) ⌝ }
-    ensures { λ _. ⌜ now (facts .exit) ≡ received (heard h w (length (now (facts .entry))) 7 refused (processed (runAnswer (now (cells .entry)) h w (paletteOf (now (palette .entry)) k) (configOf beta «remove_orphans» «orphan_min_region» «orphan_max_delta» «fix_jaggies» kind darken r g b tileset) (isSet saturated) (isSet «fixed_palette») «outline_margin» (length (now (work .entry)))))) (now (facts .entry)) ⌝ }
+    ensures { λ n. ⌜ n ≡ code (heard h w (length (now (facts .entry))) 7 refused (processed (runAnswer (now (cells .entry)) h w (paletteOf (now (palette .entry)) k) (configOf (betaOf kind beta) orphans region delta jaggies (outlineOf kind darken r g b) tileset) (isSet saturated) (isSet «fixed_palette») margin (length (now (work .entry)))))) ⌝ }
+    ensures { λ _. ⌜ now (cells .exit) ≡ heard h w (length (now (facts .entry))) 7 (λ n. now (cells .entry)) (runCells (now (cells .entry)) h w (paletteOf (now (palette .entry)) k) (configOf (betaOf kind beta) orphans region delta jaggies (outlineOf kind darken r g b) tileset) (isSet saturated) (isSet «fixed_palette») margin (length (now (work .entry)))) ⌝ }
+    ensures { λ _. ⌜ now (palette .exit) ≡ heard h w (length (now (facts .entry))) 7 (λ n. now (palette .entry)) (runPalette (now (cells .entry)) h w (paletteOf (now (palette .entry)) k) (configOf (betaOf kind beta) orphans region delta jaggies (outlineOf kind darken r g b) tileset) (isSet saturated) (isSet «fixed_palette») margin (length (now (work .entry)))) ⌝ }
+    ensures { λ _. ⌜ now (facts .exit) ≡ received (heard h w (length (now (facts .entry))) 7 refused (processed (runAnswer (now (cells .entry)) h w (paletteOf (now (palette .entry)) k) (configOf (betaOf kind beta) orphans region delta jaggies (outlineOf kind darken r g b) tileset) (isSet saturated) (isSet «fixed_palette») margin (length (now (work .entry)))))) (now (facts .entry)) ⌝ }
 {
     if let Filling::Refused(n) = facts_rows(h, w, facts.len(), 7) {
         return n as u32;
     }
-    let config = config_of(
-        beta,
-        remove_orphans,
-        orphan_min_region,
-        orphan_max_delta,
-        fix_jaggies,
-        kind,
-        darken,
-        r,
-        g,
-        b,
-        tileset,
-    );
+    let tone = beta_of(kind, beta);
+    let line = outline_of(kind, darken, r, g, b);
+    let config = config_of(tone, orphans, region, delta, jaggies, line, tileset);
     let toned = is_set(saturated);
     let fixed = is_set(fixed_palette);
-    let margin = outline_margin;
     let answer = postprocess::run(cells, h, w, palette, k, config, toned, fixed, margin, work);
     tell_run(answer, facts)
 }

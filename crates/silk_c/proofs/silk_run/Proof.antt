@@ -7,7 +7,7 @@ use mir.Facts.{toZ-ofZ}
 use Rattle.checks.proofs.Rows.{refused-by, passed}
 use Rattle.rules.specs.Masks.{isSet}
 use Rattle.rules.specs.Palette.{paletteOf}
-use Rattle.silk_c.specs.Arguments.{configOf}
+use Rattle.silk_c.specs.Arguments.{outlineOf, betaOf, configOf}
 use Rattle.silk_c.specs.Outcomes.{heard, processed}
 use Rattle.silk_c.proofs.Hearing.{turned-code, turned-facts, turned-list, heard-code, heard-facts, heard-list, first, roomy}
 use Rattle.silk_c.proofs.Sizes.{processed-small}
@@ -48,6 +48,12 @@ returns c =
 enum-told : tie.Need-enum-told
 enum-told c = search needs
 
+beta-of-requires : tie.Need-beta-of-requires
+beta-of-requires c κs = search needs
+
+outline-of-requires : tie.Need-outline-of-requires
+outline-of-requires c κs = search needs
+
 config-of-requires : tie.Need-config-of-requires
 config-of-requires c κs = search needs
 
@@ -64,11 +70,19 @@ tell-run-requires : tie.Need-tell-run-requires
 tell-run-requires c κs =
     let l = c .before .before .before .before .before .before in
     let i = l .before .before .before .before in
-    let u = i .before .before .before in
+    let u = i .before .before .before .before .before in
     let s = start (checked u) in
     let a = s .args in
-    let r = rw (i .before .before .config-of .ensures, i .before .is-set .ensures, i .is-set2 .ensures, toZ-ofZ (s .fits .orphan-min-region), toZ-ofZ (s .fits .outline-margin)) at (l .run .ensures) in (
-      λ f p q e. processed-small (a .cells .now) (a .h) (a .w) (paletteOf (a .palette .now) (a .k)) (configOf (a .beta) (a .remove-orphans) (a .orphan-min-region) (a .orphan-max-delta) (a .fix-jaggies) (a .kind) (a .darken) (a .r) (a .g) (a .b) (a .tileset)) (isSet (a .saturated)) (isSet (a .fixed-palette)) (a .outline-margin) (length (a .work .now)) f p q (sym (r .0) ∙ e),
+    let r = rw (
+      i .before .before .config-of .ensures,
+      i .before .before .before .before .beta-of .ensures,
+      i .before .before .before .outline-of .ensures,
+      i .before .is-set .ensures,
+      i .is-set2 .ensures,
+      toZ-ofZ (s .fits .region),
+      toZ-ofZ (s .fits .margin),
+    ) at (l .run .ensures) in (
+      λ f p q e. processed-small (a .cells .now) (a .h) (a .w) (paletteOf (a .palette .now) (a .k)) (configOf (betaOf (a .kind) (a .beta)) (a .orphans) (a .region) (a .delta) (a .jaggies) (outlineOf (a .kind) (a .darken) (a .r) (a .g) (a .b)) (a .tileset)) (isSet (a .saturated)) (isSet (a .fixed-palette)) (a .margin) (length (a .work .now)) f p q (sym (r .0) ∙ e),
       roomy (a .h) (a .w) (length (a .facts .now)) 7 (clear u),
     )
 
@@ -90,10 +104,18 @@ returns-2 c =
     let t = c .before .before in
     let l = t .before .before .before .before .before .before .before in
     let i = l .before .before .before .before in
-    let u = i .before .before .before in
+    let u = i .before .before .before .before .before in
     let s = start (checked u) in
     let e = clear u in
-    let r = rw (i .before .before .config-of .ensures, i .before .is-set .ensures, i .is-set2 .ensures, toZ-ofZ (s .fits .orphan-min-region), toZ-ofZ (s .fits .outline-margin)) at (l .run .ensures) in (
+    let r = rw (
+      i .before .before .config-of .ensures,
+      i .before .before .before .before .beta-of .ensures,
+      i .before .before .before .outline-of .ensures,
+      i .before .is-set .ensures,
+      i .is-set2 .ensures,
+      toZ-ofZ (s .fits .region),
+      toZ-ofZ (s .fits .margin),
+    ) at (l .run .ensures) in (
       heard-code (rows s) e processed (t .tell-run .ensures .0) (r .0),
       (
         heard-list (rows s) e (s .args .cells .now) (r .1 .0),
@@ -110,6 +132,8 @@ silk-run-spec =
     cast-result
     returns
     enum-told
+    beta-of-requires
+    outline-of-requires
     config-of-requires
     is-set-requires
     is-set-requires-2
