@@ -15,6 +15,7 @@ use lib.ListN.{length, set, length-set}
 use Rattle.base.specs.Places.{count}
 use Rattle.base.proofs.Counting.{case, clash, right, count-same, count-le}
 use Rattle.rules.specs.Regions.{at, opaque, link, roots, root, first}
+use Rattle.rules.specs.Grid.{stepTo}
 use Rattle.rules.specs.Masks.{labelAt, regions}
 use Rattle.rules.proofs.Roots.{link-same, link-adj, to-link}
 use Rattle.grid.specs.declared.Tally.{Tally}
@@ -147,7 +148,7 @@ module _ {h w steps : ℕ} {work₀ : List ℕ} {t₀ : Tally} {head p k : ℕ} 
       }
 
 pub turn-on : {h w steps : ℕ} {work₀ : List ℕ} {t₀ : Tally} {head p k : ℕ} {work new : List ℕ} {t next : Tally} → Turn h w steps work₀ t₀ head p k work t → head < t₀ .taken → k < steps →
-    Visited h w (p / w) (p % w) (rowsOf k) (colsOf k) (plane (h * w) 0 work p) work t new next → Turn h w steps work₀ t₀ head p (k + 1) new next
+    Visited (h * w) (stepTo h w (p / w) (p % w) (rowsOf k) (colsOf k)) (plane (h * w) 0 work p) work t new next → Turn h w steps work₀ t₀ head p (k + 1) new next
 unfolding hop
 turn-on u lh lk (Visited.kept not) = turn-kept u lh lk not
 turn-on u lh lk (Visited.took q e same free) = turn-took u lh lk q e same free

@@ -4,7 +4,7 @@ use mathlib.Core.Path.{_≡_, refl, sym, ap, _∙_, subst}
 use mathlib.Core.Logic.{_⊎_, inl, inr, ⊎-elim}
 use mathlib.Core.Bool.{Bool, true, false, not, _&&_, _||_, cond}
 use mathlib.Core.Option.{Option, none, some}
-use native.Mathlib.Nat.{mul-zero, mul-le-mul, not-suc-le-zero, mod-lt, mod-eq-of-lt, div-eq-of-lt, mul-add-div-right, mul-add-mod-self-right, div-add-mod', div-lt-iff-lt-mul}
+use native.Mathlib.Nat.{mul-zero, mul-le-mul, not-suc-le-zero, add-mul, mod-lt, mod-eq-of-lt, div-eq-of-lt, mul-add-div-right, mul-add-mod-self-right, div-add-mod', div-lt-iff-lt-mul}
 use native.Mathlib.Decide.{ℕ-discrete, decLt}
 use native.Mathlib.Omega.{arith}
 use borrow.Author.Tests.{ltb-true, ltb-false, lt-ltb, le-ltb}
@@ -16,7 +16,7 @@ use Rattle.rules.specs.Regions.{Symmetric}
 use Rattle.rules.specs.Grid.{close, eight, four, onSide, placeOf, stepTo}
 use Rattle.rules.proofs.Grids.{eight-symmetric, four-symmetric}
 use Rattle.grid.specs.declared.Step.the-variants.{Cell, Off}
-use Rattle.grid.specs.Steps.{stepOf, rowsOf, colsOf, hop, hood}
+use Rattle.grid.specs.Steps.{Single, Inner, stepOf, rowsOf, colsOf, hop, hood}
 
 -- ---- rows, columns and places
 
@@ -201,6 +201,26 @@ offset-near =
     (near refl refl refl refl) (near refl refl refl refl) (near refl refl refl refl) (near refl refl refl refl)
     (near refl refl refl refl) (near refl refl refl refl) (near refl refl refl refl) (near refl refl refl refl)
 
+-- in truth none goes further than one
+pub offset-single : (k : ℕ) → k < 8 → Single (rowsOf k) × Single (colsOf k)
+offset-single =
+    each-step (λ (k : ℕ). Single (rowsOf k) × Single (colsOf k))
+    (Single.back, Single.stay) (Single.stay, Single.back) (Single.stay, Single.on) (Single.on, Single.stay)
+    (Single.back, Single.back) (Single.back, Single.on) (Single.on, Single.back) (Single.on, Single.on)
+
+pub single-near : {dy dx : ℤ} → Single dy → Single dx → Near dy dx
+single-near y x = record { up = low y; down = high y; left = low x; right = high x }
+  where
+    low : {d : ℤ} → Single d → leZ (negsuc 1) d ≡ true
+    low Single.back = refl
+    low Single.stay = refl
+    low Single.on = refl
+
+    high : {d : ℤ} → Single d → leZ d (pos 2) ≡ true
+    high Single.back = refl
+    high Single.stay = refl
+    high Single.on = refl
+
 module _ (h w p : ℕ) where
   hop-found : (k q : ℕ) → hop h w p k ≡ some q → Found h w (p / w) (p % w) (rowsOf k) (colsOf k) q
   unfolding hop
@@ -316,6 +336,40 @@ module _ (steps : ℕ) (ok : (steps ≡ 4) ⊎ (steps ≡ 8)) where
       ⊎-elim
       (λ s. let f = four-hop h w p q l (sym (ap (λ (a : ℕ → ℕ → Bool). a p q) (hood-four w s)) ∙ e) in (f .0, omega (arith, f .1), f .2))
       (λ s. let f = eight-hop h w p q l (sym (ap (λ (a : ℕ → ℕ → Bool). a p q) (hood-eight w s)) ∙ e) in (f .0, omega (arith, f .1), f .2)) ok
+
+-- ---- a step from within the border
+
+-- r is one more than a single step
+pub record Past (d : ℤ) (r : ℕ) : Type 0 where
+  pub few : r ≤ 2
+  pub shifted : (a b : ℕ) → b + 1 ≡ a + r → Shifted d a b
+
+pub past-is : {d : ℤ} {r : ℕ} → Single d → pos r ≡ d +ℤ pos 1 → Past d r
+past-is {r = r} Single.back e = let z : r ≡ 0 = cc in record { few = omega arith; shifted = λ a b f. omega arith }
+past-is {r = r} Single.stay e = let z : r ≡ 1 = cc in record { few = omega arith; shifted = λ a b f. omega arith }
+past-is {r = r} Single.on e = let z : r ≡ 2 = cc in record { few = omega arith; shifted = λ a b f. omega arith }
+
+module _ {h w p rows cols : ℕ} {dy dx : ℤ} (i : Inner h w p) (u : Past dy rows) (v : Past dx cols) where
+  -- the row and the column that the step finds
+  abbrev row : ℕ
+  row = p / w + rows - 1
+
+  abbrev col : ℕ
+  col = p % w + cols - 1
+
+  inner-place : p + rows * w + cols ≡ row * w + col + (w + 1)
+  inner-place =
+      let e : row + 1 ≡ p / w + rows = omega (arith, i .above) in
+      omega (arith, i .before, div-add-mod' p w, add-mul (p / w) rows w, add-mul row 1 w, ap (λ (b : ℕ). b * w) e)
+
+  pub inner-room : w + 1 ≤ p + rows * w + cols
+  inner-room = omega (arith, inner-place)
+
+  pub inner-step : stepTo h w (p / w) (p % w) dy dx ≡ some (p + rows * w + cols - (w + 1))
+  inner-step =
+      step-complete h w (p / w) (p % w) row col dy dx (omega (arith, i .below, u .few)) (omega (arith, i .after, v .few))
+      (u .shifted (p / w) row (omega (arith, i .above))) (v .shifted (p % w) col (omega (arith, i .before)))
+      ∙ ap some (omega (arith, inner-place))
 
 -- ---- what `neighbour` does
 

@@ -4,7 +4,7 @@ use mathlib.Core.Path.{_≡_, refl, ap, _∙_}
 use mathlib.Core.Bool.{true, false, true≢false}
 use native.Mathlib.Omega.{arith}
 use borrow.Author.Tests.{lt-ltb, le-ltb}
-use lib.Dec.{ltb}
+use lib.Dec.{T, ltb, lit<}
 use lib.IntN.{ℤ, pos, negsuc, natAbs, _+ℤ_}
 use lib.Signed.{mag, ltZ, leZ, nonNeg}
 use mir.Syntax.{w32}
@@ -13,7 +13,7 @@ use mir.Facts.{toZ-ofZ, toZ-pos, sfits-lit}
 use Rattle.base.proofs.Counting.{case, clash, leb-yes, to-T}
 use Rattle.rules.specs.Grid.{onSide}
 use Rattle.grid.specs.declared.Step.the-variants.{Cell, Off}
-use Rattle.grid.specs.Steps.{stepOf}
+use Rattle.grid.specs.Steps.{Single, stepOf}
 use Rattle.grid.specs.Planes.{paintOf}
 use Rattle.grid.specs.Tiles.{repaint}
 
@@ -41,6 +41,23 @@ sum-is a d f s = ap (λ (x : ℤ). toZ w32 a +ℤ x) (toZ-ofZ f) ∙ ap (λ (x :
 
 pub sum-back : (a : ℕ) (d : ℤ) → SFits w32 d → Short a d → toZ w32 (ofZ w32 (toZ w32 a +ℤ toZ w32 (ofZ w32 d))) ≡ pos a +ℤ d
 sum-back a d f s = ap (λ (x : ℤ). toZ w32 (ofZ w32 x)) (sum-is a d f s) ∙ toZ-ofZ (short-fits a d s)
+
+-- ---- one more than a single step
+
+pub single-fits : {d : ℤ} → Single d → SFits w32 (d +ℤ pos 1)
+single-fits Single.back = small (pos 0) (lit< tt)
+single-fits Single.stay = small (pos 1) (lit< tt)
+single-fits Single.on = small (pos 2) (lit< tt)
+
+pub single-on : {d : ℤ} → Single d → T (nonNeg (d +ℤ pos 1))
+single-on Single.back = tt
+single-on Single.stay = tt
+single-on Single.on = tt
+
+pub single-past : {d : ℤ} → Single d → pos (natAbs (d +ℤ pos 1)) ≡ d +ℤ pos 1
+single-past Single.back = refl
+single-past Single.stay = refl
+single-past Single.on = refl
 
 -- ---- the three ways through `along`, z being where the step leads
 

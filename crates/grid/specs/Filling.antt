@@ -4,13 +4,12 @@ use mathlib.Core.Path.{_≡_}
 use mathlib.Core.Logic.{_⊎_, _↔_}
 use mathlib.Core.Bool.{Bool, true}
 use mathlib.Core.List.{List}
-use mathlib.Core.Option.{some}
+use mathlib.Core.Option.{Option, some}
 use lib.Dec.{eqb}
 use lib.IntN.{ℤ}
 use lib.ListN.{length, set}
 use Rattle.base.specs.Places.{count}
 use Rattle.rules.specs.Regions.{opaque, link, roots, root, first}
-use Rattle.rules.specs.Grid.{stepTo}
 use Rattle.rules.specs.Masks.{labelAt}
 use Rattle.grid.specs.declared.Tally.{Tally}
 use Rattle.grid.specs.Steps.{hood}
@@ -92,11 +91,11 @@ pub record Since (n : ℕ) (old new : List ℕ) : Type 0 where
   pub kept : Kept n old new
   pub given : (p : ℕ) → p < n → (plane n 1 old p ≡ 0 → ⊥) → plane n 1 new p ≡ plane n 1 old p
 
--- what one step does, from row y and column x of a cell of that paint
-pub data Visited (h w y x : ℕ) (dy dx : ℤ) (paint : ℕ) (work : List ℕ) (t : Tally) : List ℕ → Tally → Type 0 where
-  kept : ((q : ℕ) → stepTo h w y x dy dx ≡ some q → plane (h * w) 0 work q ≡ paint → plane (h * w) 1 work q ≡ 0 → ⊥) → Visited h w y x dy dx paint work t work t
-  took : (q : ℕ) → stepTo h w y x dy dx ≡ some q → plane (h * w) 0 work q ≡ paint → plane (h * w) 1 work q ≡ 0 →
-      Visited h w y x dy dx paint work t (joined (h * w) q (t .regions) (t .taken) work) (record { regions = t .regions; taken = t .taken + 1 })
+-- what one step does that finds a cell or none, from a cell of that paint
+pub data Visited (n : ℕ) (found : Option ℕ) (paint : ℕ) (work : List ℕ) (t : Tally) : List ℕ → Tally → Type 0 where
+  kept : ((q : ℕ) → found ≡ some q → plane n 0 work q ≡ paint → plane n 1 work q ≡ 0 → ⊥) → Visited n found paint work t work t
+  took : (q : ℕ) → found ≡ some q → plane n 0 work q ≡ paint → plane n 1 work q ≡ 0 →
+      Visited n found paint work t (joined n q (t .regions) (t .taken) work) (record { regions = t .regions; taken = t .taken + 1 })
 
 -- the first k places have no label, and all else is as it was
 pub record Cleared (n k : ℕ) (old new : List ℕ) : Type 0 where

@@ -1,5 +1,5 @@
 -- Steps from a cell of a grid to its neighbours. Definitions only. Assumes nothing.
-use Prim.Native.Nat.{ℕ, _/_, _%_}
+use Prim.Native.Nat.{ℕ, _+_, _/_, _%_, _<_}
 use mathlib.Core.Bool.{Bool, cond}
 use mathlib.Core.List.{List, [], _∷_}
 use mathlib.Core.Option.{Option, none, some}
@@ -31,6 +31,19 @@ colsOf k = getD (getD offsets k []) 1 (pos 0)
 -- where the k-th step leads from the place p
 unfoldable pub hop : ℕ → ℕ → ℕ → ℕ → Option ℕ
 hop h w p k = stepTo h w (p / w) (p % w) (rowsOf k) (colsOf k)
+
+-- one place back, none, or one on
+pub data Single : ℤ → Type 0 where
+  back : Single (negsuc 0)
+  stay : Single (pos 0)
+  on : Single (pos 1)
+
+-- the place p has cells all around
+pub record Inner (h w p : ℕ) : Type 0 where
+  pub above : 0 < p / w
+  pub below : p / w + 1 < h
+  pub before : 0 < p % w
+  pub after : p % w + 1 < w
 
 -- the neighbourhood that the first 4 or all 8 steps reach
 unfoldable pub hood : ℕ → ℕ → ℕ → ℕ → Bool

@@ -2,42 +2,41 @@
 use crate::Step;
 use crate::Tally;
 ghost use mathlib.Core.Path.{_≡_};
-ghost use mathlib.Core.Bool.{true};
-ghost use Prim.Native.Nat.{_+_, _-_, _*_, _<_, _≤_};
-ghost use lib.IntN.{pos, negsuc};
-ghost use lib.Signed.{leZ};
+ghost use mathlib.Core.Bool.{false};
+ghost use Prim.Native.Nat.{_+_, _-_, _*_, _/_, _%_, _<_, _≤_};
 ghost use lib.ListN.{length};
 ghost use Rattle.base.specs.Outputs.{filled};
+ghost use Rattle.rules.specs.Grid.{stepTo};
 ghost use Rattle.rules.specs.Masks.{labelAt, regions};
-ghost use Rattle.grid.specs.Steps.{hood};
+ghost use Rattle.grid.specs.Steps.{Single, Inner, hood};
 ghost use Rattle.grid.specs.Planes.{plane, cellsOf, Labelled};
 ghost use Rattle.grid.specs.Filling.{Sized, blanks, Filled, Shut, Flood, Passed, Kept, Since, Visited, Cleared};
 
-// The cell that a step finds joins the region, if it has the region's paint and no label.
+// The cell that a step from p finds joins the region, if it has the region's paint and no label.
 fn visit(
     work: &mut [u32],
     h: usize,
     w: usize,
-    y: usize,
-    x: usize,
+    p: usize,
     dy: i32,
     dx: i32,
+    border: bool,
     paint: u32,
     t: Tally,
 ) -> Tally
-    requires { ⌜ (y < h) × (x < w) × (h ≤ 514) × (w ≤ 514) × (8 * (h * w) ≤ length (now work)) ⌝ }
-    requires { ⌜ (leZ (negsuc 1) dy ≡ true) × (leZ dy (pos 2) ≡ true) × (leZ (negsuc 1) dx ≡ true) × (leZ dx (pos 2) ≡ true) ⌝ }
+    requires { ⌜ (p < h * w) × (h ≤ 514) × (w ≤ 514) × (8 * (h * w) ≤ length (now work)) ⌝ }
+    requires { ⌜ Single dy × Single dx × (border ≡ false → Inner h w p) ⌝ }
     requires { ⌜ t .taken + blanks (h * w) (now work) ≤ h * w ⌝ }
-    ensures { λ r. ⌜ Visited h w y x dy dx paint (now (work .entry)) t (now (work .exit)) r ⌝ }
+    ensures { λ r. ⌜ Visited (h * w) (stepTo h w (p / w) (p % w) dy dx) paint (now (work .entry)) t (now (work .exit)) r ⌝ }
 {
     let n = h * w;
-    let Step::Cell(q) = crate::neighbour(y, x, dy, dx, h, w) else {
+    let Step::Cell(q) = crate::reached(p, dy, dx, border, h, w) else {
         return t;
     };
-    if work[n + q] != 0 {
+    if work[q] != paint {
         return t;
     }
-    if work[q] != paint {
+    if work[n + q] != 0 {
         return t;
     }
     let mark = t.regions;
@@ -61,14 +60,13 @@ fn visit_all(work: &mut [u32], h: usize, w: usize, steps: usize, head: usize, fr
 {
     let n = h * w;
     let p = work[2 * n + head] as usize;
-    let y = p / w;
-    let x = p % w;
+    let border = crate::on_border(p, h, w);
     let paint = work[p];
     let offsets = crate::OFFSETS8;
     let mut t = from;
     for k in 0..steps {
         let o = offsets[k];
-        t = visit(work, h, w, y, x, o[0], o[1], paint, t);
+        t = visit(work, h, w, p, o[0], o[1], border, paint, t);
     }
     t
 }

@@ -5,16 +5,16 @@ pub mod tile;
 use base::Filling;
 use rules::Labelling;
 ghost use mathlib.Core.Path.{_≡_};
-ghost use Prim.Native.Nat.{_≤_, _<_};
+ghost use Prim.Native.Nat.{_*_, _/_, _%_, _≤_, _<_};
 ghost use lib.IntN.{pos, negsuc, _+ℤ_};
 ghost use lib.Signed.{leZ};
-ghost use mathlib.Core.Bool.{true};
+ghost use mathlib.Core.Bool.{true, false};
 ghost use mathlib.Core.List.{[]};
 ghost use lib.ListN.{length};
 ghost use Rattle.base.specs.Refusals.{filling};
 ghost use Rattle.rules.specs.Grid.{onSide, stepTo};
 ghost use Rattle.rules.specs.Masks.{gridRefusal, regionsAnswer, regionsLabels};
-ghost use Rattle.grid.specs.Steps.{stepOf};
+ghost use Rattle.grid.specs.Steps.{stepOf, Single, Inner};
 
 // What a step from a cell finds.
 pub enum Step {
@@ -71,6 +71,49 @@ pub fn neighbour(y: usize, x: usize, dy: i32, dx: i32, h: usize, w: usize) -> St
     };
     let first = row * w;
     Step::Cell(first + col)
+}
+
+// Whether the place p lies on the border of the grid.
+fn on_border(p: usize, h: usize, w: usize) -> bool
+    requires { ⌜ (p < h * w) × (h ≤ 514) × (w ≤ 514) ⌝ }
+    ensures { λ r. ⌜ (r ≡ false → Inner h w p) ⌝ }
+{
+    let y = p / w;
+    let x = p % w;
+    if y == 0 {
+        return true;
+    }
+    if x == 0 {
+        return true;
+    }
+    if y + 1 == h {
+        return true;
+    }
+    x + 1 == w
+}
+
+// One more than a step of -1, 0 or 1.
+fn past(d: i32) -> usize
+    requires { ⌜ Single d ⌝ }
+    ensures { λ r. ⌜ pos r ≡ d +ℤ pos 1 ⌝ }
+{
+    (d + 1) as usize
+}
+
+// The step of dy rows and dx columns from the place p: from within the border every step leads to a cell.
+fn reached(p: usize, dy: i32, dx: i32, border: bool, h: usize, w: usize) -> Step
+    requires { ⌜ (p < h * w) × (h ≤ 514) × (w ≤ 514) ⌝ }
+    requires { ⌜ Single dy × Single dx × (border ≡ false → Inner h w p) ⌝ }
+    ensures { λ r. ⌜ r ≡ stepOf (stepTo h w (p / w) (p % w) dy dx) ⌝ }
+{
+    if border {
+        return neighbour(p / w, p % w, dy, dx, h, w);
+    }
+    let rows = past(dy);
+    let cols = past(dx);
+    let to = p + rows * w + cols;
+    let over = w + 1;
+    Step::Cell(to - over)
 }
 
 // Rows 1 to 3 of an entry that reads a lent list and fills another, by their lengths and that of the work area.

@@ -1,7 +1,7 @@
 -- `grid::label::visit`: one step. Assumes nothing.
 use mathlib.Core.Path.{_≡_, refl, sym, _∙_}
-use mathlib.Core.Option.{some}
-use Prim.Native.Nat.{ℕ, _+_, _*_, _<_, _≤_}
+use mathlib.Core.Option.{Option, some}
+use Prim.Native.Nat.{ℕ, _+_, _*_, _/_, _%_, _<_, _≤_}
 use native.Mathlib.Omega.{arith}
 use borrow.Author.Needs.{needs}
 use lib.Dec.{eqb}
@@ -18,15 +18,13 @@ use Rattle.grid.proofs.label.visit.Statement.{statement}
 use Rattle.grid.proofs.label.visit.Tie as tie
 
 mul-n : tie.Need-mul-n
-mul-n c = let s = c .before in omega (arith, area _ _ (s .pre .0 .2) (s .pre .0 .3))
+mul-n c = let s = c .before in omega (arith, area _ _ (s .pre .0 .1) (s .pre .0 .2))
 
-neighbour-requires : tie.Need-neighbour-requires
-neighbour-requires c κs =
+reached-requires : tie.Need-reached-requires
+reached-requires c κs =
     let s = c .before in
-    let p = s .pre .1 .0 in (
-      (s .pre .0 .0, s .pre .0 .1, s .pre .0 .2, s .pre .0 .3),
-      (rw (toZ-ofZ (s .fits .dy)) (p .0), rw (toZ-ofZ (s .fits .dy)) (p .1), rw (toZ-ofZ (s .fits .dx)) (p .2), rw (toZ-ofZ (s .fits .dx)) (p .3)),
-    )
+    let p = s .pre .1 .0 in
+    ((s .pre .0 .0, s .pre .0 .1, s .pre .0 .2), (rw (toZ-ofZ (s .fits .dy)) (p .0), rw (toZ-ofZ (s .fits .dx)) (p .1), p .2))
 
 enum-known-q : tie.Need-enum-known-q
 enum-known-q c = search needs
@@ -34,9 +32,13 @@ enum-known-q c = search needs
 enum-told : tie.Need-enum-told
 enum-told c = search needs
 
+-- where the step leads
+abbrev to : tie.Start → Option ℕ
+to s = let a = s .args in stepTo (a .h) (a .w) (a .p / a .w) (a .p % a .w) (a .dy) (a .dx)
+
 -- what the step finds
-found : (c : tie.After-neighbour) → let s = c .before .before .args in c .neighbour .result ≡ stepOf (stepTo (s .h) (s .w) (s .y) (s .x) (s .dy) (s .dx))
-found c = let s = c .before .before in rw (toZ-ofZ (s .fits .dy), toZ-ofZ (s .fits .dx)) at (c .neighbour .ensures)
+found : (c : tie.After-reached) → c .reached .result ≡ stepOf (to (c .before .before))
+found c = let s = c .before .before in rw (toZ-ofZ (s .fits .dy), toZ-ofZ (s .fits .dx)) at (c .reached .ensures)
 
 returns : tie.Need-returns
 returns c = Visited.kept (λ q e same free. none-some (sym (step-off (sym (found (c .before .before)) ∙ c .enum-told .given .1)) ∙ e))
@@ -50,11 +52,11 @@ q c = c .q .given .0 .0
 abbrev n : tie.After-q → ℕ
 n c = start c .args .h * start c .args .w
 
-q-is : (c : tie.After-q) → let s = start c .args in stepTo (s .h) (s .w) (s .y) (s .x) (s .dy) (s .dx) ≡ some (q c)
+q-is : (c : tie.After-q) → to (start c) ≡ some (q c)
 q-is c = step-cell (sym (found (c .before .before)) ∙ c .q .given .1)
 
 -- no other cell is found
-only : (c : tie.After-q) (r : ℕ) → (let s = start c .args in stepTo (s .h) (s .w) (s .y) (s .x) (s .dy) (s .dx) ≡ some r) → r ≡ q c
+only : (c : tie.After-q) (r : ℕ) → to (start c) ≡ some r → r ≡ q c
 only c r e = some-inj (sym e ∙ q-is c)
 
 pub record Bounds (c : tie.After-q) : Type 0 where
@@ -65,10 +67,7 @@ pub record Bounds (c : tie.After-q) : Type 0 where
 bounds : (c : tie.After-q) → Bounds c
 bounds c =
     let s = start c in
-    record { on = step-sound _ _ _ _ _ _ _ (q-is c) .inside; few = area _ _ (s .pre .0 .2) (s .pre .0 .3); room = s .pre .0 .4 }
-
-add-if1 : tie.Need-add-if1
-add-if1 c = omega (arith, bounds (c .before))
+    record { on = step-sound _ _ _ _ _ _ _ (q-is c) .inside; few = area _ _ (s .pre .0 .1) (s .pre .0 .2); room = s .pre .0 .3 }
 
 mul-if1 : tie.Need-mul-if1
 mul-if1 c = omega (arith, bounds (c .before))
@@ -86,7 +85,10 @@ label-at c r e = plane-read (n c) 1 r (n c + q c) (start c .args .work .now) (om
 returns-2 : tie.Need-returns-2
 returns-2 c =
     let a = c .before .before .before in
-    Visited.kept (λ r e same free. c .if1 .taken (label-at a r (only a r e) ∙ free))
+    Visited.kept (λ r e same free. c .if1 .taken (paint-at a r (only a r e) ∙ same))
+
+add-if2 : tie.Need-add-if2
+add-if2 c = omega (arith, bounds (c .before .before .before))
 
 mul-if2 : tie.Need-mul-if2
 mul-if2 c = omega (arith, bounds (c .before .before .before))
@@ -100,10 +102,10 @@ to-q c = c .before .before .before .before .before
 returns-3 : tie.Need-returns-3
 returns-3 c =
     let a = c .before .before .before .before .before in
-    Visited.kept (λ r e same free. c .if2 .taken (paint-at a r (only a r e) ∙ same))
+    Visited.kept (λ r e same free. c .if2 .taken (label-at a r (only a r e) ∙ free))
 
 free-at : (c : tie.Else2) → plane (n (to-q c)) 1 (start (to-q c) .args .work .now) (q (to-q c)) ≡ 0
-free-at c = sym (label-at (to-q c) (q (to-q c)) refl) ∙ c .before .before .if1 .left
+free-at c = sym (label-at (to-q c) (q (to-q c)) refl) ∙ c .if2 .left
 
 -- a cell without a label leaves room in the order
 left : (c : tie.Else2) → start (to-q c) .args .t .taken < n (to-q c)
@@ -146,21 +148,21 @@ same-length c = simp length-set
 returns-4 : tie.Need-returns-4
 returns-4 c =
     let a = to-q c in
-    Visited.took (q a) (q-is a) (sym (paint-at a (q a) refl) ∙ c .if2 .left) (free-at c)
+    Visited.took (q a) (q-is a) (sym (paint-at a (q a) refl) ∙ c .before .before .if1 .left) (free-at c)
 
 pub visit-spec : {M : Type 1} → statement M
 visit-spec =
     tie.close
     (tie.spec
     mul-n
-    neighbour-requires
+    reached-requires
     enum-known-q
     enum-told
     returns
-    add-if1
     mul-if1
     slice-read-if1
     returns-2
+    add-if2
     mul-if2
     slice-read-if2
     returns-3

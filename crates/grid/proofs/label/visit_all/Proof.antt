@@ -1,6 +1,7 @@
 -- `grid::label::visit_all`: the steps of the place that waits. Assumes nothing.
 use mathlib.Core.Path.{_≡_, refl, sym, _∙_}
 use mathlib.Core.Logic.{inl}
+use mathlib.Core.Bool.{false}
 use Prim.Native.Nat.{ℕ, _+_, _-_, _*_, _≤_, _<_}
 use native.Mathlib.Omega.{arith}
 use borrow.Author.Needs.{needs}
@@ -8,19 +9,19 @@ use lib.ListN.{length, getD}
 use mir.Syntax.{w32}
 use mir.Val.{SFits}
 use mir.Facts.{toZ-ofZ}
-use Rattle.grid.specs.Steps.{rowsOf, colsOf}
+use Rattle.grid.specs.Steps.{Inner, rowsOf, colsOf}
 use Rattle.grid.specs.Planes.{plane}
-use Rattle.grid.proofs.Places.{wide, row-in, col-in, area, step-few, offset-near}
+use Rattle.grid.proofs.Places.{area, step-few, offset-single}
 use Rattle.grid.proofs.Planes.{plane-read}
 use Rattle.grid.proofs.Flooding.{Turn, turn-start, turn-on, turn-off}
 use Rattle.grid.proofs.label.visit_all.Statement.{statement}
 use Rattle.grid.proofs.label.visit_all.Tie as tie
 
 abbrev Inv-loop : tie.InvT-loop
-Inv-loop work₀ h w steps head n p y x paint offsets t₀ k₀ work t k = Turn h w steps work₀ t₀ head p k work t
+Inv-loop work₀ h w steps head n p border paint offsets t₀ k₀ work t k = Turn h w steps work₀ t₀ head p k work t
 
 abbrev μ-loop : tie.MeasureT-loop
-μ-loop work₀ h w steps head n p y x paint offsets t₀ k₀ work t k = steps - k
+μ-loop work₀ h w steps head n p border paint offsets t₀ k₀ work t k = steps - k
 
 abbrev S : Type 0
 S = tie.Start Inv-loop μ-loop
@@ -64,27 +65,21 @@ slice-read-p c = omega (arith, bounds (c .before .before))
 cast-p : tie.Need-cast-p Inv-loop μ-loop
 cast-p c = omega (arith, bounds (c .before .before))
 
-wide-at : (c : S) → 0 < c .args .w
-wide-at c = wide (c .args .h) (c .args .w) (place c) (bounds c .on)
-
-div-y : tie.Need-div-y Inv-loop μ-loop
-div-y c = wide-at (c .before .before)
-
-rem-x : tie.Need-rem-x Inv-loop μ-loop
-rem-x c = wide-at (c .before .before)
+on-border-requires : tie.Need-on-border-requires Inv-loop μ-loop
+on-border-requires c κs = let s = c .before .before in let z = s .pre .0 .filled .sized in (bounds s .on, z .rows, z .cols)
 
 mul-paint : tie.Need-mul-paint Inv-loop μ-loop
-mul-paint c = omega (arith, bounds (c .before .before))
+mul-paint c = omega (arith, bounds (c .before .before .before))
 
 slice-read-paint : tie.Need-slice-read-paint Inv-loop μ-loop
-slice-read-paint c = omega (arith, bounds (c .before .before .before))
+slice-read-paint c = omega (arith, bounds (c .before .before .before .before))
 
 loop-holds : tie.Need-loop-holds Inv-loop μ-loop
 unfolding plane
-loop-holds c = turn-start (c .before .before .before .pre .0)
+loop-holds c = turn-start (c .before .before .before .before .pre .0)
 
 abbrev start : tie.In-loop Inv-loop μ-loop → S
-start c = c .before .before .before .before .before
+start c = c .before .before .before .before .before .before
 
 k-small : (c : tie.In-loop Inv-loop μ-loop) → c .before .loop .k < 8
 k-small c = step-few (start c .args .steps) (start c .pre .0 .filled .sized .count) (c .before .loop .k) (c .loop-test .taken)
@@ -108,19 +103,19 @@ rows-fit c = record { sfits = c .before .visit-arg2 .given }
 cols-fit : (c : tie.After-visit-arg3 Inv-loop μ-loop) → SFits w32 (colsOf (c .before .before .before .before .before .loop .k))
 cols-fit c = record { sfits = c .visit-arg3 .given }
 
+-- what the place's test told
+border : (i : tie.In-loop Inv-loop μ-loop) → i .before .before .before .on-border .result ≡ false → Inner (start i .args .h) (start i .args .w) (place (start i))
+border i = i .before .before .before .on-border .ensures
+
 visit-requires : tie.Need-visit-requires Inv-loop μ-loop
 visit-requires c κs =
     let i = c .before .before .before .before in
     let s = start i in
     let u = i .before .loop .inv in
     let f = u .flood .filled in
-    let o = offset-near (i .before .loop .k) (k-small i) in
-    let b = bounds s in (
-      (row-in _ _ _ (b .on), col-in _ _ _ (b .on), f .sized .rows, f .sized .cols, f .sized .planes),
-      (
-        (rw (toZ-ofZ (rows-fit c)) (o .up), rw (toZ-ofZ (rows-fit c)) (o .down), rw (toZ-ofZ (cols-fit c)) (o .left), rw (toZ-ofZ (cols-fit c)) (o .right)),
-        f .order .free,
-      ),
+    let o = offset-single (i .before .loop .k) (k-small i) in (
+      (bounds s .on, f .sized .rows, f .sized .cols, f .sized .planes),
+      ((rw (toZ-ofZ (rows-fit c)) (o .0), rw (toZ-ofZ (cols-fit c)) (o .1), border i), f .order .free),
     )
 
 add-k : tie.Need-add-k Inv-loop μ-loop
@@ -150,7 +145,7 @@ same-length c = c .before .loop .inv .since .kept .size
 returns : tie.Need-returns Inv-loop μ-loop
 returns c =
     let u = c .before .loop .inv in
-    (turn-off u (c .before .before .before .before .before .pre .1) (c .loop-test .left), (u .since, (u .regions, u .taken)))
+    (turn-off u (c .before .before .before .before .before .before .pre .1) (c .loop-test .left), (u .since, (u .regions, u .taken)))
 
 pub visit-all-spec : {M : Type 1} → statement M
 visit-all-spec =
@@ -164,8 +159,7 @@ visit-all-spec =
     mul-p-2
     slice-read-p
     cast-p
-    div-y
-    rem-x
+    on-border-requires
     mul-paint
     slice-read-paint
     loop-holds
