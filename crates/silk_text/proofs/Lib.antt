@@ -4,10 +4,3 @@ pub mod Signs
 pub mod Laying
 pub mod Repeating
 pub mod Whole
-pub mod Digits
-pub mod Printing
-pub mod Cells
-pub mod Outcome
-pub mod Rereading
-pub mod RoundTrip
-pub mod Lengths

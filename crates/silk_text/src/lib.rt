@@ -1,5 +1,4 @@
-// The text of the program `silk`: reading what comes in, and printing what goes out.
+// Reading the text of the program `silk`.
 pub mod cursor;
 pub mod head;
-pub mod print;
 pub mod sheet;

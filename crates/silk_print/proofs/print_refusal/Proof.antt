@@ -1,0 +1,39 @@
+-- `print_refusal` meets its contract. Assumes nothing.
+use borrow.Author.Needs.{needs}
+use native.Mathlib.Omega.{arith}
+use Rattle.silk_text.specs.Reader.{codes, newline}
+use Rattle.silk_print.specs.Print.{numberText, refusalText, refusalFits}
+use borrow.Author.Tests.{le-leb, lt-leb}
+use Rattle.silk_print.proofs.Printing.{put-room, third-room, put-three}
+use Rattle.silk_print.proofs.Outcome.{printed-no, printed-yes}
+use Rattle.silk_print.proofs.print_refusal.Statement.{statement}
+use Rattle.silk_print.proofs.print_refusal.Tie as tie
+
+returns : tie.Need-returns
+unfolding refusalFits
+returns c = printed-no (lt-leb 12 _ (c .if1 .taken)) _ _
+
+slice-aggregate-put-bytes : tie.Need-slice-aggregate-put-bytes
+slice-aggregate-put-bytes c = search needs
+
+put-bytes-requires : tie.Need-put-bytes-requires
+put-bytes-requires c κs = omega arith
+
+put-refusal-requires : tie.Need-put-refusal-requires
+put-refusal-requires c κs = put-room (c .before .before .before .put-bytes .ensures) 3 (omega arith)
+
+slice-aggregate-put-bytes-2 : tie.Need-slice-aggregate-put-bytes-2
+slice-aggregate-put-bytes-2 c = search needs
+
+put-bytes-requires-2 : tie.Need-put-bytes-requires-2
+put-bytes-requires-2 c κs = third-room (c .before .before .before .before .before .before .before .before .put-bytes .ensures) (c .before .before .before .before .put-refusal .ensures) 1 (omega arith)
+
+same-length : tie.Need-same-length
+same-length c = search needs
+
+returns-2 : tie.Need-returns-2
+unfolding refusalFits refusalText numberText codes newline
+returns-2 c = printed-yes (le-leb 12 _ (c .before .before .before .before .before .before .before .before .before .before .before .before .before .before .if1 .left)) (put-three (c .before .before .before .before .before .before .before .before .before .before .before .put-bytes .ensures) (c .before .before .before .before .before .before .before .put-refusal .ensures) (c .before .before .put-bytes2 .ensures) (c .before .before .before .before .before .before .before .before .before .before .before .before .before .before .if1 .left))
+
+pub print-refusal-spec : {M : Type 1} → statement M
+print-refusal-spec = tie.close (tie.spec returns slice-aggregate-put-bytes put-bytes-requires put-refusal-requires slice-aggregate-put-bytes-2 put-bytes-requires-2 same-length returns-2)

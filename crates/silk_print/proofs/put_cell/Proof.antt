@@ -1,0 +1,31 @@
+-- `put_cell` meets its contract. Assumes nothing.
+use borrow.Author.Needs.{needs}
+use native.Mathlib.Omega.{arith}
+use Rattle.silk_print.proofs.Printing.{put-room}
+use Rattle.silk_print.proofs.Cells.{cell-first, cell-later}
+use Rattle.silk_print.proofs.put_cell.Statement.{statement}
+use Rattle.silk_print.proofs.put_cell.Tie as tie
+
+put-signed-requires : tie.Need-put-signed-requires
+put-signed-requires c κs = omega arith
+
+same-length : tie.Need-same-length
+same-length c = search needs
+
+returns : tie.Need-returns
+returns c = cell-first (c .before .before .before .before .before .before .fits .c) (c .before .before .before .before .if1 .taken) (c .before .before .put-signed .ensures)
+
+put-byte-requires : tie.Need-put-byte-requires
+put-byte-requires c κs = omega arith
+
+put-signed-requires-2 : tie.Need-put-signed-requires-2
+put-signed-requires-2 c κs = put-room (c .before .before .before .put-byte .ensures) 11 (c .before .before .before .before .before .before .before .pre)
+
+same-length-2 : tie.Need-same-length-2
+same-length-2 c = search needs
+
+returns-2 : tie.Need-returns-2
+returns-2 c = cell-later (c .before .before .before .before .before .before .before .before .before .before .fits .c) (c .before .before .before .before .before .before .before .before .if1 .left) (c .before .before .before .before .before .before .put-byte .ensures) (c .before .before .put-signed2 .ensures) (c .before .before .before .before .before .before .before .before .before .before .pre)
+
+pub put-cell-spec : {M : Type 1} → statement M
+put-cell-spec = tie.close (tie.spec put-signed-requires same-length returns put-byte-requires put-signed-requires-2 same-length-2 returns-2)

@@ -1,0 +1,26 @@
+-- `put_head` meets its contract. Assumes nothing.
+use borrow.Author.Needs.{needs}
+use native.Mathlib.Omega.{arith}
+use Rattle.silk_print.specs.Print.{headText}
+use Rattle.silk_print.proofs.Printing.{put-room, third-room, put-three}
+use Rattle.silk_print.proofs.put_head.Statement.{statement}
+use Rattle.silk_print.proofs.put_head.Tie as tie
+
+put-sizes-requires : tie.Need-put-sizes-requires
+put-sizes-requires c κs = (c .before .before .pre .0, omega arith)
+
+put-index-requires : tie.Need-put-index-requires
+put-index-requires c κs = put-room (c .before .before .before .put-sizes .ensures) 25 (omega arith)
+
+put-clipped-requires : tie.Need-put-clipped-requires
+put-clipped-requires c κs = third-room (c .before .before .before .before .before .before .before .put-sizes .ensures) (c .before .before .before .put-index .ensures) 18 (c .before .before .before .before .before .before .before .before .before .before .pre .1)
+
+same-length : tie.Need-same-length
+same-length c = search needs
+
+returns : tie.Need-returns
+unfolding headText
+returns c = put-three (c .before .before .before .before .before .before .before .before .before .before .put-sizes .ensures) (c .before .before .before .before .before .before .put-index .ensures) (c .before .before .put-clipped .ensures) (c .before .before .before .before .before .before .before .before .before .before .before .before .before .pre .1)
+
+pub put-head-spec : {M : Type 1} → statement M
+put-head-spec = tie.close (tie.spec put-sizes-requires put-index-requires put-clipped-requires same-length returns)
