@@ -1,5 +1,5 @@
 # make test     everything that the gate does; its last line is 'N passed, 0 failed'
-# make run      proves and runs the programs that replay stored answers
+# make run      proves and builds the program silk, and runs it on the sheets of examples/
 # make lib      the C library: target/staticlib/libsilk_c.a, declared in include/silk.h
 # make example  builds examples/c with it and runs that
 # make compare  the library beside the Rust original in SHARED, CASES random calls of each entry and more
@@ -17,7 +17,8 @@ test:
 	@rt ci
 
 run:
-	@rt check vectors_color vectors_grid vectors_sheet
+	@rt check silk
+	@sh tools/run_examples.sh target/bin/silk
 
 lib: $(LIB)
 $(LIB): crates.txt $(shell find crates -name '*.rt' -o -name '*.antt')

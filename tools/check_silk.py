@@ -1,10 +1,9 @@
 #!/usr/bin/env python3
-"""Runs a program on vectors/silk_cases.txt and examples/: check_silk.py PROGRAM [ARGUMENT...]
+"""Runs a program on the cases of crates/vectors_silk and on examples/: check_silk.py PROGRAM [ARGUMENT...]
 
 Prints each input whose output is another than the stored one, and how many were tried.
 """
 
-import ast
 import glob
 import os
 import re
@@ -15,12 +14,12 @@ ROOT = os.path.join(os.path.dirname(os.path.abspath(__file__)), "..")
 
 
 def unquoted(line):
-    line = re.sub(r"<(.)\*(\d+)>", lambda run: run[1] * int(run[2]), line)
-    return ast.literal_eval('b"' + line.replace('"', '\\"') + '"')
+    line = re.sub(r"<(.)\*(\d{6})>", lambda run: run[1] * int(run[2]), line)
+    return re.sub(r"\\(n|x..)", lambda c: chr(10 if c[1] == "n" else int(c[1][1:], 16)), line).encode("latin-1")
 
 
 def cases():
-    with open(os.path.join(ROOT, "vectors/silk_cases.txt"), encoding="ascii") as file:
+    with open(os.path.join(ROOT, "crates/vectors_silk/data/silk_cases.txt"), encoding="ascii") as file:
         lines = file.read().splitlines()
     for i in range(0, len(lines), 3):
         yield lines[i][2:], unquoted(lines[i + 1]), unquoted(lines[i + 2])

@@ -1,9 +1,8 @@
 #!/usr/bin/env python3
-"""Writes vectors/silk_cases.txt: inputs of the program `silk` and what it has to print.
+"""Writes crates/vectors_silk/data/silk_cases.txt: inputs of the program `silk` and what it has to print.
 
-Three lines a case: its name after '# ', the input, the output, both as Python writes bytes inside
-quotes, a long run of one letter as <LETTER*COUNT>. `check_silk.py PROGRAM` replays them. Inputs of
-at most 4,096 bytes are also written to vectors/silk.txt, in numbers: see vectors/README.md.
+Three lines a case: its name after '# ', the input, the output; vectors/README.md says how bytes are
+written. The program vectors_silk replays them, and so does `check_silk.py PROGRAM`.
 """
 
 import os
@@ -208,10 +207,10 @@ def random_sheets():
 
 
 def quoted(data):
-    """As Python writes bytes, without its quotes; a quote itself stays bare, long runs are counted."""
-    assert b"<" not in data
-    text = repr(b'"' + data)[3:-1].replace("\\'", "'")
-    return re.sub(r"([ h])\1{99,}", lambda run: f"<{run[1]}*{len(run[0])}>", text)
+    """Line ends as \\n, other bytes that do not print as \\xHH, long runs counted."""
+    text = "".join(
+        "\\n" if c == 10 else chr(c) if 32 <= c < 127 and c not in b"\\<" else f"\\x{c:02x}" for c in data)
+    return re.sub(r"([ h])\1{99,}", lambda run: f"<{run[1]}*{len(run[0]):06}>", text)
 
 
 if __name__ == "__main__":
@@ -220,13 +219,7 @@ if __name__ == "__main__":
     colours_and_rows()
     random_sheets()
     long_inputs()
-    folder = os.path.join(HERE, "../vectors")
-    with open(os.path.join(folder, "silk_cases.txt"), "w", encoding="ascii") as file:
+    with open(os.path.join(HERE, "../crates/vectors_silk/data/silk_cases.txt"), "w", encoding="ascii") as file:
         for name, data, out in CASES:
-            file.write(f"# {name}\n{quoted(data)}\n{quoted(out)}\n")
-    with open(os.path.join(folder, "silk.txt"), "w", encoding="ascii") as file:
-        for name, data, out in CASES:
-            if len(data) <= 4096:
-                words = [len(data), *data, len(out), *out]
-                file.write(" ".join(f"{n:x}" for n in [len(words), *words]) + "\n")
+            file.write(f"# {quoted(name.encode())}\n{quoted(data)}\n{quoted(out)}\n")
     print(len(CASES), "cases")

@@ -1,0 +1,4 @@
+pub mod Fitting
+pub mod Putting
+pub mod Replying
+pub mod Lending

@@ -1,0 +1,63 @@
+-- What is printed for a text, by what reading and `run` came to. Assumes nothing.
+use Prim.Native.Nat.{ℕ}
+use mathlib.Core.Path.{_≡_, refl, sym, ap, _∙_}
+use mathlib.Core.Bool.{Bool, true}
+use mathlib.Core.List.{List}
+use native.Mathlib.Omega.{arith}
+use lib.IntN.{ℤ}
+use lib.Ieee.{Float}
+use lib.ListN.{length, length-replicate}
+use borrow.Author.Tests.{le-leb}
+use Rattle.rules.specs.Entries.{runAnswer, runCells, runPalette}
+use Rattle.rules.specs.Palette.{Palette, paletteOf}
+use Rattle.rules.specs.declared.Facts.{Facts}
+use Rattle.rules.specs.declared.PostConfig.{PostConfig}
+use Rattle.rules.specs.declared.Processing.{Processing}
+use Rattle.rules.specs.declared.Processing.the-variants.{Processed, Refused}
+use Rattle.silk_text.specs.Answers.{readInto, lent}
+use Rattle.silk_text.specs.Format.{File, parse}
+use Rattle.silk_text.specs.Print.{resultText, refusalText, resultFits, printedAnswer, printedBuffer}
+use Rattle.silk_text.specs.Reader.{Got}
+use Rattle.silk_text.specs.declared.head.Head.{Head}
+use Rattle.silk_text.specs.declared.print.Printed.{Printed}
+use Rattle.silk_reply.specs.Reply.{noColours, noCells, workSize, ran, Ran, Front, answerText, sheetText, gotText, silkText, counted}
+use Rattle.silk_reply.proofs.Fitting.{printed}
+use Rattle.silk_reply.proofs.Putting.{put}
+
+-- ---- by what reading came to
+
+-- the lent lists are long enough to be read into
+into : (text : List ℕ) → readInto text noColours noCells ≡ lent noColours noCells (parse text)
+unfolding readInto noColours noCells
+into text = refl
+
+pub replied : (text : List ℕ) {g : Got File} → readInto text noColours noCells ≡ g → silkText text ≡ gotText g
+unfolding silkText
+replied text e = ap gotText (sym (into text) ∙ e)
+
+-- ---- by what `run` came to
+
+-- with the margin and the work area as the code has them
+pub called : {A : Type 0} (f : List ℤ → ℕ → ℕ → Palette → PostConfig → Bool → Bool → ℤ → ℕ → A) (h : Head) (palette : List Float) (cells : List ℤ) {margin : ℤ} {work : ℕ} →
+    margin ≡ h .margin → work ≡ workSize →
+    f cells (h .height) (h .width) (paletteOf palette (h .colours)) (h .config) (h .saturated) (h .fixed) margin work ≡ ran f h palette cells
+called f h palette cells m k = rw (m, k)
+
+module _ {h : Head} {palette : List Float} {cells : List ℤ} {answer : Processing} {palette′ : List Float} {cells′ : List ℤ} (c : Ran h palette cells answer palette′ cells′) where
+  pub sheet-refused : {n : ℕ} → answer ≡ Refused n → sheetText h palette cells ≡ refusalText n
+  unfolding sheetText answerText
+  sheet-refused e = rw (← c .answers, e)
+
+  module _ {f : Facts} {p q : ℕ} (e : answer ≡ Processed f p q) where
+    sheet-result : sheetText h palette cells ≡ resultText f palette′ cells′
+    unfolding sheetText answerText
+    sheet-result = rw (← c .answers, e, c .colours, c .sheet)
+
+    -- the result fits, and is put at the front
+    pub sheet-put : {old new : List ℕ} {x : Printed} {r : ℕ} → length old ≡ 32768 →
+        x ≡ printedAnswer (resultFits f palette′ cells′ old) (resultText f palette′ cells′) →
+        new ≡ printedBuffer (resultFits f palette′ cells′ old) (resultText f palette′ cells′) old → r ≡ counted x → Front (sheetText h palette cells) old new r
+    unfolding resultFits
+    sheet-put {old} m u v w =
+        let fits : resultFits f palette′ cells′ old ≡ true = rw (c .colours, c .sheet, m) (printed cells _ _ _ _ _ _ _ _ (c .lent) (sym (c .answers) ∙ e)) in
+        rw sheet-result (put _ (resultText f palette′ cells′) fits u v w)

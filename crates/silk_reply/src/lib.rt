@@ -1,0 +1,101 @@
+// What the program `silk` does: it reads a text, runs its sheet, and writes what comes of it.
+ghost use mathlib.Core.Path.{_≡_};
+ghost use lib.ListN.{length};
+ghost use Rattle.silk_text.specs.Answers.{laid};
+ghost use Rattle.silk_text.specs.Print.{refusalText};
+ghost use Rattle.silk_reply.specs.Reply.{sheetText, silkText, Ran, Front, counted};
+use postprocess::run;
+use rules::Processing;
+use silk_text::head::Head;
+use silk_text::print::Printed;
+use silk_text::print::print_refusal;
+use silk_text::print::print_result;
+use silk_text::sheet::Parsed;
+use silk_text::sheet::read;
+
+// One byte more than a text may have.
+const TEXT: usize = 65537;
+
+// Room for every text that is printed.
+pub const ROOM: usize = 32768;
+
+const DOUBLES: usize = 768;
+
+// 42 by 42 cells: 40 by 40, padded.
+const CELLS: usize = 1764;
+
+const WORK: usize = 8 * CELLS;
+
+// How many bytes were put.
+fn count(printed: Printed) -> usize
+    ensures { λ r. ⌜ r ≡ counted printed ⌝ }
+{
+    match printed {
+        Printed::Bytes(n) => n,
+        Printed::Refused(_) => 0,
+    }
+}
+
+// Prints a refusal's number.
+fn put_refusal(n: u8, out: &mut [u8; ROOM]) -> usize
+    ensures { λ r. ⌜ Front (refusalText n) (now (out .entry)) (now (out .exit)) r ⌝ }
+{
+    count(print_refusal(n, out))
+}
+
+// `run` on a sheet that was read.
+fn run_sheet(h: Head, palette: &mut [f64; DOUBLES], cells: &mut [i32; CELLS]) -> Processing
+    ensures { λ r. ⌜ Ran h (now (palette .entry)) (now (cells .entry)) r (now (palette .exit)) (now (cells .exit)) ⌝ }
+{
+    let config = h.config;
+    let mut work = [0u32; WORK];
+    run(
+        cells,
+        h.height,
+        h.width,
+        palette,
+        h.colours,
+        config,
+        h.saturated,
+        h.fixed,
+        h.margin,
+        &mut work,
+    )
+}
+
+// Runs a sheet that was read, and prints what comes of it.
+fn put_sheet(
+    h: Head,
+    palette: &mut [f64; DOUBLES],
+    cells: &mut [i32; CELLS],
+    out: &mut [u8; ROOM],
+) -> usize
+    ensures { λ r. ⌜ Front (sheetText h (now (palette .entry)) (now (cells .entry))) (now (out .entry)) (now (out .exit)) r ⌝ }
+{
+    match run_sheet(h, palette, cells) {
+        Processing::Processed(facts, _, _) => count(print_result(facts, palette, cells, out)),
+        Processing::Refused(n) => put_refusal(n, out),
+    }
+}
+
+// Puts what the program prints for a text at the front of a buffer, and answers how many bytes that is.
+pub fn respond(text: &[u8], out: &mut [u8; ROOM]) -> usize
+    ensures { λ r. ⌜ r ≡ length (silkText (now (text .entry))) ⌝ }
+    ensures { λ r. ⌜ now (out .exit) ≡ laid 0 (silkText (now (text .entry))) (now (out .entry)) ⌝ }
+{
+    let mut palette = [0.0; DOUBLES];
+    let mut cells = [0i32; CELLS];
+    match read(text, &mut palette, &mut cells) {
+        Parsed::Sheet(h) => put_sheet(h, &mut palette, &mut cells, out),
+        Parsed::Refused(n) => put_refusal(n, out),
+    }
+}
+
+// Reads a text from one file, and writes what comes of it to another. The answer is whether all of it was written.
+pub fn serve(from: i32, to: i32) -> bool {
+    let mut text = [0u8; TEXT];
+    let mut out = [0u8; ROOM];
+    let n = io::read_full(from, &mut text);
+    let count = respond(&text[..n], &mut out);
+    io::write_all(to, &out[..count])
+}
