@@ -21,7 +21,7 @@ use Rattle.rules.specs.Sheet.{Sheet, area, sheetOf, over, needed}
 use Rattle.rules.specs.Palette.{Palette, paletteOf, outOfRange, saturate}
 use Rattle.rules.specs.Corners.{trim}
 use Rattle.rules.specs.Outline.{asked, pads, padded, canvas, ring, hasRing, Outlined}
-use Rattle.rules.specs.Run.{Tidied, tidyIf, limitsOf, toned, outlineIf, process}
+use Rattle.rules.specs.Run.{Tidied, tidyIf, limitsOf, toned, outlineIf, Ran, process}
 use Rattle.rules.specs.Rows.{tooLarge, badPalette, badIndex, noEntry}
 use Rattle.rules.specs.Entries.{factsOf, outlineRefusal, runAnswer, runCells, runPalette}
 use Rattle.rules.proofs.Opacity.{Alike, trans, tidied-alike, cut-alike, pads-same, ring-same, canvas-alike, Shown, line-shown}
@@ -73,6 +73,14 @@ Met x answer cells lab =
     (answer ≡ runAnswer (x .cells) (x .h) (x .w) (x .palette) (x .config) (x .saturated) (x .fixed) (x .margin) (x .work))
     × ((cells ≡ runCells (x .cells) (x .h) (x .w) (x .palette) (x .config) (x .saturated) (x .fixed) (x .margin) (x .work))
     × (lab ≡ runPalette (x .cells) (x .h) (x .w) (x .palette) (x .config) (x .saturated) (x .fixed) (x .margin) (x .work)))
+
+-- what an accepted call leaves, with so many cells lent: sides and colours in range, cells within the lent ones, and all doubles
+pub record Left (r : Ran) (lent : ℕ) : Type 0 where
+  pub high : r .sheet .height ≤ 514
+  pub wide : r .sheet .width ≤ 514
+  pub held : r .sheet .height * r .sheet .width ≤ lent
+  pub few : r .palette .count ≤ 256
+  pub full : length (r .palette .lab) ≡ 768
 
 -- a call that is refused leaves both lists
 pub met-refused : (x : Call) (n : ℕ) → judged x ≡ some n → Met x (Refused n) (x .cells) (x .palette .lab)
@@ -295,6 +303,17 @@ module _ (x : Call) where
 
     alike-second : Alike (line .sheet) second
     alike-second = tidied-alike (on && asked (x .config .outline)) 1 (line .palette) (limitsOf (x .config)) (line .sheet) (shown-cut .full)
+
+    pub left : Left (process (x .config) (x .saturated) (x .fixed) (x .margin) (sheet x) (x .palette)) (length (x .cells))
+    unfolding process area
+    left =
+        record {
+          high = subst (λ (n : ℕ). n ≤ 514) (sym (alike-second .height)) (cleanable-line .rows);
+          wide = subst (λ (n : ℕ). n ≤ 514) (sym (alike-second .width)) (cleanable-line .cols);
+          held = rw (alike-second .height, alike-second .width) (omega (arith, line-area, g .roomy .lent));
+          few = cleanable-line .entries;
+          full = cleanable-line .doubles;
+        }
 
     abbrev redo : Sheet → Palette → Tidied
     redo t q = tidyIf (on && asked (x .config .outline)) 1 q (limitsOf (x .config)) t

@@ -14,6 +14,7 @@ use Rattle.rules.specs.declared.Facts.{Facts}
 use Rattle.rules.specs.declared.PostConfig.{PostConfig}
 use Rattle.rules.specs.declared.Processing.{Processing}
 use Rattle.rules.specs.declared.Processing.the-variants.{Processed, Refused}
+use Rattle.postprocess.proofs.Refusing.{Call}
 use Rattle.silk_text.specs.Answers.{readInto, lent}
 use Rattle.silk_text.specs.Format.{File, parse}
 use Rattle.silk_text.specs.Print.{resultText, refusalText, resultFits, printedAnswer, printedBuffer}
@@ -43,6 +44,21 @@ pub called : {A : Type 0} (f : List ℤ → ℕ → ℕ → Palette → PostConf
     f cells (h .height) (h .width) (paletteOf palette (h .colours)) (h .config) (h .saturated) (h .fixed) margin work ≡ ran f h palette cells
 called f h palette cells m k = rw (m, k)
 
+-- its arguments
+abbrev call : Head → List Float → List ℤ → Call
+call h palette cells =
+    record {
+      cells = cells;
+      h = h .height;
+      w = h .width;
+      palette = paletteOf palette (h .colours);
+      config = h .config;
+      saturated = h .saturated;
+      fixed = h .fixed;
+      margin = h .margin;
+      work = workSize;
+    }
+
 module _ {h : Head} {palette : List Float} {cells : List ℤ} {answer : Processing} {palette′ : List Float} {cells′ : List ℤ} (c : Ran h palette cells answer palette′ cells′) where
   pub sheet-refused : {n : ℕ} → answer ≡ Refused n → sheetText h palette cells ≡ refusalText n
   unfolding sheetText answerText
@@ -59,5 +75,5 @@ module _ {h : Head} {palette : List Float} {cells : List ℤ} {answer : Processi
         new ≡ printedBuffer (resultFits f palette′ cells′ old) (resultText f palette′ cells′) old → r ≡ counted x → Front (sheetText h palette cells) old new r
     unfolding resultFits
     sheet-put {old} m u v w =
-        let fits : resultFits f palette′ cells′ old ≡ true = rw (c .colours, c .sheet, m) (printed cells _ _ _ _ _ _ _ _ (c .lent) (sym (c .answers) ∙ e)) in
+        let fits : resultFits f palette′ cells′ old ≡ true = rw (c .colours, c .sheet, m) (printed (call h palette cells) (c .lent) (sym (c .answers) ∙ e)) in
         rw sheet-result (put _ (resultText f palette′ cells′) fits u v w)

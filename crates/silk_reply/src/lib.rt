@@ -19,11 +19,13 @@ const TEXT: usize = 65537;
 // Room for every text that is printed.
 pub const ROOM: usize = 32768;
 
+// 256 entries of a palette.
 const DOUBLES: usize = 768;
 
 // 42 by 42 cells: 40 by 40, padded.
 const CELLS: usize = 1764;
 
+// The work area: 8 numbers for each cell.
 const WORK: usize = 8 * CELLS;
 
 // How many bytes were put.

@@ -89,6 +89,7 @@ fn run(cases: &[u8; CASES], at: usize) -> Bytes
     }
 }
 
+// What stands at a place.
 fn token(cases: &[u8; CASES], at: usize) -> Bytes
     requires { ⌜ at < 262144 ⌝ }
     ensures { λ r. ⌜ (at < r .next) × (r .next ≤ 262154) ⌝ }
@@ -170,6 +171,7 @@ struct Replayed {
     differs: u64,
 }
 
+// Replays the case at a place.
 fn case(cases: &[u8; CASES], at: usize) -> Replayed
     requires { ⌜ at ≤ 262144 ⌝ }
     ensures { λ r. ⌜ (at < r .next) × (r .differs ≤ 1) ⌝ }
@@ -206,6 +208,7 @@ fn replay_all(cases: &[u8; CASES], count: usize)
     replay::total_told(b"silk_cases.txt", number, differing);
 }
 
+// Replays the file of cases.
 fn main() {
     let mut cases = [0u8; CASES];
     let file = os::open_read(b"silk_cases.txt");
