@@ -1,5 +1,5 @@
 -- What the program may leave unread, and that its lent lists suffice. Assumes nothing.
-use Prim.Native.Nat.{ℕ, zero, suc, _+_, _*_, _≤_}
+use Prim.Native.Nat.{ℕ, _+_, _*_, _≤_}
 use mathlib.Core.Path.{_≡_, refl, sym, ap, _∙_, subst}
 use mathlib.Core.Bool.{Bool, true, false}
 use mathlib.Core.List.{List, [], _∷_, _++_, flatMap}
@@ -10,7 +10,7 @@ use lib.IntN.{pos}
 use lib.ListN.{length, take, drop, length-append, length-take, length-drop, length-replicate}
 use lib.Seq.{take-take}
 use borrow.Author.Tests.{le-ltb, eq-eqb}
-use Rattle.color.specs.Doubles.{decimal}
+use Rattle.base.specs.Doubles.{decimal}
 use Rattle.color.specs.declared.Rgb8.{Rgb8}
 use Rattle.rules.specs.Rows.{tooLarge, tooShort, cramped, badPalette}
 use Rattle.rules.specs.Sheet.{needed}

@@ -7,9 +7,9 @@ use native.Mathlib.Omega.{arith}
 use lib.ListN.{length, length-append, length-drop}
 use borrow.Author.Tests.{le-leb}
 use Rattle.silk_text.specs.Answers.{laid}
-use Rattle.silk_text.specs.Print.{refusalText, refusalFits, printedAnswer, printedBuffer}
-use Rattle.silk_text.specs.declared.print.Printed.{Printed}
-use Rattle.silk_text.specs.declared.print.Printed.the-variants.{Bytes}
+use Rattle.silk_print.specs.Print.{refusalText, refusalFits, printedAnswer, printedBuffer}
+use Rattle.silk_print.specs.declared.Printed.{Printed}
+use Rattle.silk_print.specs.declared.Printed.the-variants.{Bytes}
 use Rattle.silk_reply.specs.Reply.{Front, counted}
 
 -- a text that fits is put at the front

@@ -3,12 +3,9 @@ use Prim.Native.Nat.{ℕ}
 use mathlib.Core.Path.{_≡_, refl, sym, ap, _∙_}
 use mathlib.Core.Bool.{Bool, true}
 use mathlib.Core.List.{List}
-use native.Mathlib.Omega.{arith}
 use lib.IntN.{ℤ}
 use lib.Ieee.{Float}
-use lib.ListN.{length, length-replicate}
-use borrow.Author.Tests.{le-leb}
-use Rattle.rules.specs.Entries.{runAnswer, runCells, runPalette}
+use lib.ListN.{length}
 use Rattle.rules.specs.Palette.{Palette, paletteOf}
 use Rattle.rules.specs.declared.Facts.{Facts}
 use Rattle.rules.specs.declared.PostConfig.{PostConfig}
@@ -17,10 +14,10 @@ use Rattle.rules.specs.declared.Processing.the-variants.{Processed, Refused}
 use Rattle.postprocess.proofs.Refusing.{Call}
 use Rattle.silk_text.specs.Answers.{readInto, lent}
 use Rattle.silk_text.specs.Format.{File, parse}
-use Rattle.silk_text.specs.Print.{resultText, refusalText, resultFits, printedAnswer, printedBuffer}
+use Rattle.silk_print.specs.Print.{resultText, refusalText, resultFits, printedAnswer, printedBuffer}
 use Rattle.silk_text.specs.Reader.{Got}
 use Rattle.silk_text.specs.declared.head.Head.{Head}
-use Rattle.silk_text.specs.declared.print.Printed.{Printed}
+use Rattle.silk_print.specs.declared.Printed.{Printed}
 use Rattle.silk_reply.specs.Reply.{noColours, noCells, workSize, ran, Ran, Front, answerText, sheetText, gotText, silkText, counted}
 use Rattle.silk_reply.proofs.Fitting.{printed}
 use Rattle.silk_reply.proofs.Putting.{put}

@@ -6,7 +6,7 @@ use mathlib.Core.Path.{_≡_}
 use lib.Ieee.{Float}
 use lib.IntN.{ℤ, pos}
 use lib.ListN.{length, replicate}
-use Rattle.color.specs.Doubles.{decimal}
+use Rattle.base.specs.Doubles.{decimal}
 use Rattle.rules.specs.Entries.{runAnswer, runCells, runPalette}
 use Rattle.rules.specs.Palette.{Palette, paletteOf}
 use Rattle.rules.specs.declared.PostConfig.{PostConfig}
@@ -14,11 +14,11 @@ use Rattle.rules.specs.declared.Processing.{Processing}
 use Rattle.rules.specs.declared.Processing.the-variants.{Processed, Refused}
 use Rattle.silk_text.specs.Answers.{laid, lent}
 use Rattle.silk_text.specs.Format.{File, parse}
-use Rattle.silk_text.specs.Print.{resultText, refusalText}
+use Rattle.silk_print.specs.Print.{resultText, refusalText}
 use Rattle.silk_text.specs.Reader.{Got, got, refused}
 use Rattle.silk_text.specs.declared.head.Head.{Head}
-use Rattle.silk_text.specs.declared.print.Printed
-use Rattle.silk_text.specs.declared.print.Printed.{Printed}
+use Rattle.silk_print.specs.declared.Printed
+use Rattle.silk_print.specs.declared.Printed.{Printed}
 
 -- ---- the lists that the program lends
 

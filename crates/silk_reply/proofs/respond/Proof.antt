@@ -2,7 +2,7 @@
 use borrow.Author.Needs.{needs}
 use mathlib.Core.Path.{sym, ap, _∙_}
 use lib.Ieee.{ofBits, round}
-use Rattle.color.specs.Doubles.{decimal}
+use Rattle.base.specs.Doubles.{decimal}
 use Rattle.silk_text.specs.Answers.{parsed}
 use Rattle.silk_reply.specs.Reply.{noColours, noCells, gotText}
 use Rattle.silk_reply.proofs.Replying.{replied}
