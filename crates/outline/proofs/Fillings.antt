@@ -1,58 +1,148 @@
--- More laws of lists filled from the front: filled from the last place down, places left as they are, and a sheet at the front. Assumes nothing.
-use Prim.Native.Nat.{ℕ, _+_, _≤_, _<_}
-use mathlib.Core.Path.{_≡_, refl, sym, ap, _∙_}
+-- More laws of lists filled from the front or in stretches: one stretch after or before another, row by row, and a sheet at the front. Assumes nothing.
+use Prim.Native.Nat.{ℕ, _+_, _-_, _*_, _≤_, _<_}
+use mathlib.Core.Path.{_≡_, refl, sym, ap, _∙_, subst}
 use mathlib.Core.List.{List, _++_}
-use native.Mathlib.Decide.{ℕ-discrete}
+use native.Mathlib.Decide.{decLt, ℕ-discrete}
 use native.Mathlib.Omega.{arith}
 use lib.IntN.{ℤ}
-use lib.ListN.{length, getD, set, take, drop, length-set}
-use lib.Seq.{take-at, drop-at, getD-set-same, getD-set-other}
-use Rattle.base.specs.Places.{table}
+use lib.ListN.{length, getD, set, take, drop, take-append-drop, length-set, length-append, length-drop, List·getD-append}
+use lib.Seq.{take-at, drop-at, length-take-le, getD-take, getD-drop, getD-append-add, ext-getD, getD-set-same, getD-set-other}
+use Rattle.base.specs.Places.{table, tableFrom}
 use Rattle.base.specs.Outputs.{filled}
 use Rattle.base.proofs.Counting.{table-length}
 use Rattle.base.proofs.Fills.{filled-at, filled-past, filled-length, filled-is}
 use Rattle.rules.specs.Sheet.{over}
+use Rattle.outline.specs.Rows.{stretch}
+use Rattle.outline.proofs.Places.{row-on}
 
--- the places from p to n - 1 of l hold f, in m, and all others what they held
-pub record Moving {A : Type 0} (d : A) (n p : ℕ) (f : ℕ → A) (l m : List A) : Type 0 where
+-- the places from a to n - 1 of l hold f, in m, and all others what they held
+pub record Span {A : Type 0} (d : A) (a n : ℕ) (f : ℕ → A) (l m : List A) : Type 0 where
   pub size : length m ≡ length l
-  pub low : (q : ℕ) → q < p → getD m q d ≡ getD l q d
-  pub done : (q : ℕ) → p ≤ q → q < n → getD m q d ≡ f q
+  pub low : (q : ℕ) → q < a → getD m q d ≡ getD l q d
+  pub done : (q : ℕ) → a ≤ q → q < n → getD m q d ≡ f q
   pub past : (q : ℕ) → n ≤ q → getD m q d ≡ getD l q d
 
-module _ {A : Type 0} (d : A) (n : ℕ) (f : ℕ → A) (l : List A) where
-  pub moving-start : Moving d n n f l l
-  moving-start = record { size = refl; low = λ q h. refl; done = λ q h k. absurd (omega arith); past = λ q h. refl }
+-- nothing written yet
+pub span-none : {A : Type 0} (d : A) (a : ℕ) (f : ℕ → A) (l : List A) → Span d a a f l l
+span-none d a f l = record { size = refl; low = λ q h. refl; done = λ q h k. absurd (omega arith); past = λ q h. refl }
 
-  pub moving-step : (p : ℕ) (m : List A) (x : A) → p < n → n ≤ length l → Moving d n (p + 1) f l m → x ≡ f p → Moving d n p f l (set m p x)
-  moving-step p m x h room v e =
-      let other : (q : ℕ) → (q ≡ p → ⊥) → getD (set m p x) q d ≡ getD m q d = λ q z. getD-set-other m p q x d z in
+module _ {A : Type 0} {d : A} {a b n : ℕ} {f g : ℕ → A} {l m k : List A} (low : a ≤ b) (high : b ≤ n) where
+  -- the places after those that were written
+  pub span-after : Span d a b f l m → Span d b n g m k → ((q : ℕ) → b ≤ q → q < n → g q ≡ f q) → Span d a n f l k
+  span-after v u e =
       record {
-        size = simp length-set (v .size);
-        low = λ q k. other q (λ z. omega arith) ∙ v .low q (omega arith);
-        done = λ q a b. elim (ℕ-discrete q p) [
-          | yes i ↦ ap (λ (j : ℕ). getD (set m p x) j d) i ∙ getD-set-same m p x d (omega (arith, v .size)) ∙ e ∙ ap f (sym i)
-          | no i ↦ other q i ∙ v .done q (omega arith) b
-        ];
-        past = λ q k. other q (λ z. omega arith) ∙ v .past q k;
+        size = u .size ∙ v .size;
+        low = λ q h. u .low q (omega arith) ∙ v .low q h;
+        done = λ q h i. elim (decLt q b) [ yes y ↦ u .low q y ∙ v .done q h y | no z ↦ u .done q (omega arith) i ∙ e q (omega arith) i ];
+        past = λ q h. u .past q h ∙ v .past q (omega arith);
       }
 
-  pub moving-end : (m : List A) → n ≤ length l → Moving d n 0 f l m → m ≡ filled n f l
-  moving-end m room v = filled-is n f l m d room (v .size) (λ p h. v .done p (omega arith) h) (λ p h. v .past p h)
+  -- the places before them
+  pub span-before : Span d b n f l m → Span d a b g m k → ((q : ℕ) → a ≤ q → q < b → g q ≡ f q) → Span d a n f l k
+  span-before v u e =
+      record {
+        size = u .size ∙ v .size;
+        low = λ q h. u .low q h ∙ v .low q (omega arith);
+        done = λ q h i. elim (decLt q b) [ yes y ↦ u .done q h y ∙ e q h y | no z ↦ u .past q (omega arith) ∙ v .done q (omega arith) i ];
+        past = λ q h. u .past q (omega arith) ∙ v .past q h;
+      }
 
-  -- a place that holds its value already
-  pub filled-kept : n < length l → getD l n d ≡ f n → filled n f l ≡ filled (n + 1) f l
-  filled-kept h e =
-      filled-is (n + 1) f l (filled n f l) d (omega arith) (filled-length n f l (omega arith))
-      (λ p k. elim (ℕ-discrete p n) [
-        | yes i ↦ ap (λ (j : ℕ). getD (filled n f l) j d) i ∙ filled-past n f l d n (omega arith) ∙ e ∙ ap f (sym i)
-        | no i ↦ filled-at n f l d p (omega arith)
-      ])
-      (λ p k. filled-past n f l d p (omega arith))
+-- one place
+span-one : {A : Type 0} (d : A) (n : ℕ) (m : List A) (x : A) → n < length m → Span d n (n + 1) (λ q. x) m (set m n x)
+span-one d n m x room =
+    record {
+      size = length-set m n x;
+      low = λ q h. getD-set-other m n q x d (λ z. omega arith);
+      done = λ q h i. let z : q ≡ n = omega arith in ap (λ (j : ℕ). getD (set m n x) j d) z ∙ getD-set-same m n x d room;
+      past = λ q h. getD-set-other m n q x d (λ z. omega arith);
+    }
+
+module _ {A : Type 0} (d : A) (n : ℕ) (f : ℕ → A) (l : List A) where
+  pub span-filled : (m : List A) → n ≤ length l → Span d 0 n f l m → m ≡ filled n f l
+  span-filled m room v = filled-is n f l m d room (v .size) (λ p h. v .done p (omega arith) h) (λ p h. v .past p h)
 
   pub filled-same : (g : ℕ → A) → n ≤ length l → ((p : ℕ) → p < n → f p ≡ g p) → filled n f l ≡ filled n g l
   filled-same g h e =
       filled-is n g l (filled n f l) d h (filled-length n f l h) (λ p k. filled-at n f l d p k ∙ e p k) (λ p k. filled-past n f l d p k)
+
+  -- a stretch from a on
+  module _ (a : ℕ) (room : a + n ≤ length l) where
+    length-front : length (take a l) ≡ a
+    length-front = length-take-le a l (omega arith)
+
+    length-back : n ≤ length (drop a l)
+    length-back = omega (arith, length-drop a l)
+
+    -- what is written from a on
+    from : (q : ℕ) → a ≤ q → getD (stretch a n f l) q d ≡ getD (filled n (λ i. f (a + i)) (drop a l)) (q - a) d
+    unfolding stretch
+    from q h =
+        let e : q ≡ length (take a l) + (q - a) = omega (arith, length-front) in
+        ap (λ (i : ℕ). getD (take a l ++ filled n (λ i. f (a + i)) (drop a l)) i d) e ∙ getD-append-add (take a l) _ (q - a) d
+
+    pub stretch-span : Span d a (a + n) f l (stretch a n f l)
+    unfolding stretch
+    stretch-span =
+        record {
+          size = length-append (take a l) _ ∙ omega (arith, length-front, length-drop a l, filled-length n (λ i. f (a + i)) (drop a l) length-back);
+          low = λ q h. List·getD-append (take a l) _ d q (omega (arith, length-front)) ∙ getD-take a l q d h;
+          done = λ q h i. let e : a + (q - a) ≡ q = omega arith in from q h ∙ filled-at n (λ i. f (a + i)) (drop a l) d (q - a) (omega arith) ∙ ap f e;
+          past = λ q h. let e : a + (q - a) ≡ q = omega arith in
+              from q (omega arith) ∙ filled-past n (λ i. f (a + i)) (drop a l) d (q - a) (omega arith) ∙ getD-drop a l (q - a) d ∙ ap (λ (i : ℕ). getD l i d) e;
+        }
+
+    -- what a stretch holds settles it
+    pub span-stretch : (m : List A) → Span d a (a + n) f l m → m ≡ stretch a n f l
+    span-stretch m v = ext-getD d m (stretch a n f l) (v .size ∙ sym (stretch-span .size)) (λ q i. at q (decLt q a) (decLt q (a + n)))
+      where
+        at : (q : ℕ) → Dec (q < a) → Dec (q < a + n) → getD m q d ≡ getD (stretch a n f l) q d
+        at q (yes y) e = v .low q y ∙ sym (stretch-span .low q y)
+        at q (no z) (yes y) = v .done q (omega arith) y ∙ sym (stretch-span .done q (omega arith) y)
+        at q (no z) (no y) = v .past q (omega arith) ∙ sym (stretch-span .past q (omega arith))
+
+-- nothing is written
+pub stretch-none : {A : Type 0} (a n : ℕ) (f : ℕ → A) (l : List A) → n ≡ 0 → l ≡ stretch a n f l
+unfolding stretch filled table tableFrom
+stretch-none a n f l e = rw e (sym (take-append-drop a l))
+
+-- ---- the rows of a sheet
+
+module _ {A : Type 0} {d : A} (a x : ℕ) {f : ℕ → A} {l m : List A} (v : Span d (a + 1) (a + x) f l m) (low : 1 ≤ x) where
+  -- a row between its ends: one cell more
+  pub row-more : a + x < length l → (y : A) → y ≡ f (a + x) → Span d (a + 1) (a + (x + 1)) f l (set m (a + x) y)
+  row-more room y e =
+      let next : a + x + 1 ≡ a + (x + 1) = omega arith in
+      rw next at (span-after {f = f} (omega arith) (omega arith) v (span-one d (a + x) m y (omega (arith, v .size))) (λ q h i. e ∙ ap f (omega arith)))
+
+  -- then its ends
+  pub row-ends : (n last : ℕ) → last + 1 ≡ n → x ≤ n → last ≤ x → a + n ≤ length l → (y z : A) → y ≡ f (a + 0) → z ≡ f (a + last) → set (set m (a + 0) y) (a + last) z ≡ stretch a n f l
+  row-ends n last e up down room y z ey ez =
+      span-stretch d n f l a room _ (record {
+        size = length-set (set m (a + 0) y) (a + last) z ∙ length-set m (a + 0) y ∙ v .size;
+        low = λ q h. second q (λ i. omega arith) ∙ first q (λ i. omega arith) ∙ v .low q (omega arith);
+        done = λ q h i. at q h i (ℕ-discrete q (a + last)) (ℕ-discrete q (a + 0));
+        past = λ q h. second q (λ i. omega arith) ∙ first q (λ i. omega arith) ∙ v .past q (omega arith);
+      })
+    where
+      first : (q : ℕ) → (q ≡ a + 0 → ⊥) → getD (set m (a + 0) y) q d ≡ getD m q d
+      first q i = getD-set-other m (a + 0) q y d i
+
+      second : (q : ℕ) → (q ≡ a + last → ⊥) → getD (set (set m (a + 0) y) (a + last) z) q d ≡ getD (set m (a + 0) y) q d
+      second q i = getD-set-other (set m (a + 0) y) (a + last) q z d i
+
+      at : (q : ℕ) → a ≤ q → q < a + n → Dec (q ≡ a + last) → Dec (q ≡ a + 0) → getD (set (set m (a + 0) y) (a + last) z) q d ≡ f q
+      at q h i (yes r) s =
+          let within : a + last < length (set m (a + 0) y) = omega (arith, v .size, length-set m (a + 0) y) in
+          ap (λ (j : ℕ). getD (set (set m (a + 0) y) (a + last) z) j d) r ∙ getD-set-same (set m (a + 0) y) (a + last) z d within ∙ ez ∙ ap f (sym r)
+      at q h i (no r) (yes s) =
+          let within : a + 0 < length m = omega (arith, v .size) in
+          second q r ∙ ap (λ (j : ℕ). getD (set m (a + 0) y) j d) s ∙ getD-set-same m (a + 0) y d within ∙ ey ∙ ap f (sym s)
+      at q h i (no r) (no s) = second q r ∙ first q s ∙ v .done q (omega arith) (omega arith)
+
+-- row after row, from the first on
+pub rows-more : {A : Type 0} {d : A} {f : ℕ → A} {l m : List A} (y w : ℕ) → Span d 0 (y * w) f l m → y * w + w ≤ length l → Span d 0 ((y + 1) * w) f l (stretch (y * w) w f m)
+rows-more {d = d} {f = f} {m = m} y w v room =
+    rw (row-on y w) (span-after (omega arith) (omega arith) v (stretch-span d w f m (y * w) (omega (arith, v .size))) (λ q h i. refl))
 
 module _ {A : Type 0} (n : ℕ) (f : ℕ → A) (l : List A) where
   -- what was filled, and what lies past it

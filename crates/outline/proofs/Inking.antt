@@ -3,18 +3,18 @@ use Prim.Native.Nat.{ℕ, _+_, _*_, _≤_, _<_}
 use mathlib.Core.Path.{_≡_, refl, sym, ap, _∙_}
 use mathlib.Core.Bool.{cond}
 use mathlib.Core.List.{List}
-use borrow.Author.Tests.{eq-eqb, ne-eqb}
+use native.Mathlib.Omega.{arith}
 use lib.Dec.{eqb}
 use lib.IntN.{ℤ, pos, negsuc}
 use lib.ListN.{length, getD, set, length-set}
 use Rattle.base.specs.Outputs.{filled}
 use Rattle.base.proofs.Counting.{case}
-use Rattle.base.proofs.Fills.{filled-at, filled-none, filled-more}
+use Rattle.base.proofs.Fills.{filled-at, filled-past, filled-none, filled-more}
 use Rattle.rules.specs.Sheet.{area, sheetOf, over}
 use Rattle.rules.specs.Regions.{at}
 use Rattle.rules.specs.Outline.{ring, inked}
 use Rattle.outline.proofs.Places.{front-at}
-use Rattle.outline.proofs.Fillings.{filled-kept, filled-same, over-table}
+use Rattle.outline.proofs.Fillings.{filled-same, over-table}
 
 -- a marked cell takes the index i
 unfoldable pub painted : List ℤ → List ℕ → ℕ → ℕ → ℤ
@@ -28,18 +28,15 @@ pub record Inks (l : List ℤ) (marks : List ℕ) (i p : ℕ) (m : List ℤ) : T
 pub inks-start : (l : List ℤ) (marks : List ℕ) (i : ℕ) → Inks l marks i 0 l
 inks-start l marks i = record { cells = filled-none _ l; size = refl }
 
-module _ {l : List ℤ} {marks : List ℕ} {i p : ℕ} {m : List ℤ} (k : Inks l marks i p m) (h : p < length l) where
-  pub inks-hit : (x : ℤ) → (getD marks p 0 ≡ 0 → ⊥) → x ≡ pos i → Inks l marks i (p + 1) (set m p x)
-  unfolding painted
-  inks-hit x n e =
-      record {
-        cells = ap (λ (c : List ℤ). set c p x) (k .cells) ∙ filled-more p (painted l marks i) l x h (rw (ne-eqb (getD marks p 0) 0 n) e);
-        size = simp length-set (k .size);
-      }
-
-  pub inks-miss : getD marks p 0 ≡ 0 → Inks l marks i (p + 1) m
-  unfolding painted at
-  inks-miss z = record { cells = k .cells ∙ filled-kept (negsuc 0) p (painted l marks i) l h (rw (eq-eqb (getD marks p 0) 0 z)); size = k .size }
+pub inks-step : {l : List ℤ} {marks : List ℕ} {i p : ℕ} {m : List ℤ} → Inks l marks i p m → p < length l
+    → (x : ℤ) → x ≡ cond (eqb (getD marks p 0) 0) (at m p) (pos i) → Inks l marks i (p + 1) (set m p x)
+unfolding painted at
+inks-step {l} {marks} {i} {p} {m} k h x e =
+    let kept : getD m p (negsuc 0) ≡ getD l p (negsuc 0) = ap (λ (c : List ℤ). getD c p (negsuc 0)) (k .cells) ∙ filled-past p (painted l marks i) l (negsuc 0) p (omega arith) in
+    record {
+      cells = ap (λ (c : List ℤ). set c p x) (k .cells) ∙ filled-more p (painted l marks i) l x h (e ∙ ap (λ (c : ℤ). cond (eqb (getD marks p 0) 0) c (pos i)) kept);
+      size = simp length-set (k .size);
+    }
 
 -- marked by the ring, the painted cells are the inked sheet
 module _ (l : List ℤ) (h w i : ℕ) (marks : List ℕ) (room : h * w ≤ length l) where

@@ -3,21 +3,23 @@ use Prim.Native.Nat.{ℕ, _+_, _-_, _*_, _≤_, _<_}
 use mathlib.Core.Path.{_≡_, refl, sym, ap, _∙_, subst}
 use mathlib.Core.Bool.{Bool, true, false, _&&_, cond}
 use mathlib.Core.List.{List}
-use native.Mathlib.Nat.{mul-le-mul}
+use native.Mathlib.Nat.{mul-le-mul, zero-mul}
 use native.Mathlib.Omega.{arith}
 use lib.Dec.{leb}
 use lib.IntN.{ℤ, negsuc}
 use lib.Signed.{nonNeg}
-use lib.ListN.{length, take, set}
+use lib.ListN.{length, getD, take, set}
+use lib.Seq.{getD-set-other}
 use Rattle.base.specs.Outputs.{filled}
 use Rattle.base.proofs.Counting.{case, both, left, right, leb-yes, yes-leb, table-at}
 use Rattle.rules.specs.Sheet.{Sheet, sheetOf}
 use Rattle.rules.specs.Regions.{at, opaque}
 use Rattle.rules.specs.Outline.{touches, paddedAt, padded, hasRing}
 use Rattle.grid.proofs.Places.{row-of, col-of, place-in}
-use Rattle.outline.specs.Room.{Held, fromOne, inside}
-use Rattle.outline.proofs.Places.{front-at}
-use Rattle.outline.proofs.Fillings.{Moving, moving-start, moving-step, moving-end, filled-front}
+use Rattle.outline.specs.Room.{fromOne, inside}
+use Rattle.outline.specs.Rows.{stretch}
+use Rattle.outline.proofs.Places.{front-at, row-on}
+use Rattle.outline.proofs.Fillings.{Span, span-none, span-before, span-filled, stretch-span, row-more, row-ends, filled-front}
 use Rattle.outline.proofs.Edges.{Edge, top, bottom, start, end, Touching, touching}
 use Rattle.outline.proofs.Rings.{Beside, above, below, leftward, rightward, ring-yes, ring-found}
 
@@ -45,49 +47,68 @@ padded-at s y x h =
 
 -- ---- written in place
 
--- the cell to be written next is made of one that still holds what it held
-module _ (l m : List ℤ) (h w y x p : ℕ) (on : y * (w + 2) + x ≡ p) (col : x < w + 2) where
-  next-cell : Moving (negsuc 0) ((h + 2) * (w + 2)) (p + 1) (paddedAt (sheetOf l h w)) l m
-      → cond (inside h w y x) (at m ((y - 1) * w + (x - 1))) (negsuc 0) ≡ paddedAt (sheetOf l h w) p
-  unfolding sheetOf at
-  next-cell v = subst (λ (i : ℕ). cond (inside h w y x) (at m ((y - 1) * w + (x - 1))) (negsuc 0) ≡ paddedAt (sheetOf l h w) i) on
-      (case (inside h w y x) (λ e. rw e (same (inside-yes h w y x e))) (λ z. rw z) ∙ sym (padded-at (sheetOf l h w) y x col))
-    where
-      back : (y - 1) * w ≤ y * (w + 2)
-      back = mul-le-mul (omega arith) (omega arith)
+-- the cell that code writes
+pub cell-padded : (l : List ℤ) (h w y x : ℕ) → x < w + 2 → cond (inside h w y x) (at l ((y - 1) * w + (x - 1))) (negsuc 0) ≡ paddedAt (sheetOf l h w) (y * (w + 2) + x)
+unfolding sheetOf
+cell-padded l h w y x lx = case (inside h w y x) (λ e. rw e (same (inside-yes h w y x e))) (λ z. rw z) ∙ sym (padded-at (sheetOf l h w) y x lx)
+  where
+    same : (1 ≤ y) × (y ≤ h) × (1 ≤ x) × (x ≤ w) → at l ((y - 1) * w + (x - 1)) ≡ at (take (h * w) l) ((y - 1) * w + (x - 1))
+    same b = sym (front-at (h * w) l ((y - 1) * w + (x - 1)) (place-in h w (y - 1) (x - 1) (omega arith) (omega arith)))
 
-      same : (1 ≤ y) × (y ≤ h) × (1 ≤ x) × (x ≤ w) → at m ((y - 1) * w + (x - 1)) ≡ at (take (h * w) l) ((y - 1) * w + (x - 1))
-      same b =
-          let k : (y - 1) * w + (x - 1) < h * w = place-in h w (y - 1) (x - 1) (omega arith) (omega arith) in
-          let j : (y - 1) * w + (x - 1) < p + 1 = omega (arith, back) in
-          v .low ((y - 1) * w + (x - 1)) j ∙ sym (front-at (h * w) l ((y - 1) * w + (x - 1)) k)
+-- it is made of one that lies below its row
+pub padded-same : (l m : List ℤ) (h w y x : ℕ) → x < w + 2 → ((q : ℕ) → q < y * (w + 2) → getD m q (negsuc 0) ≡ getD l q (negsuc 0))
+    → paddedAt (sheetOf m h w) (y * (w + 2) + x) ≡ paddedAt (sheetOf l h w) (y * (w + 2) + x)
+unfolding at
+padded-same l m h w y x lx low =
+    sym (cell-padded m h w y x lx) ∙ case (inside h w y x) (λ e. rw e (low ((y - 1) * w + (x - 1)) (under (inside-yes h w y x e)))) (λ z. rw z) ∙ cell-padded l h w y x lx
+  where
+    under : (1 ≤ y) × (y ≤ h) × (1 ≤ x) × (x ≤ w) → (y - 1) * w + (x - 1) < y * (w + 2)
+    under b =
+        let down : (y - 1) * w + (x - 1) < y * w = place-in y w (y - 1) (x - 1) (omega arith) (omega arith) in
+        let wider : y * w ≤ y * (w + 2) = mul-le-mul (omega arith) (omega arith) in
+        omega arith
 
--- padding so far: the places from p on, the one in row y and column x, are done
-pub record Pads (h w : ℕ) (l m : List ℤ) (y x p : ℕ) : Type 0 where
-  pub place : y * (w + 2) + x ≡ p
-  pub col : x < w + 2
-  pub low : p ≤ (h + 2) * (w + 2)
-  pub moved : Moving (negsuc 0) ((h + 2) * (w + 2)) p (paddedAt (sheetOf l h w)) l m
+-- row y so far, between its ends: its cells before column x are written
+abbrev pub Row : (h w y x : ℕ) (l m : List ℤ) → Type 0
+Row h w y x l m = Span (negsuc 0) (y * (w + 2) + 1) (y * (w + 2) + x) (paddedAt (sheetOf l h w)) l m
 
-pub pads-start : (h w : ℕ) (l : List ℤ) → Pads h w l l (h + 2) 0 ((h + 2) * (w + 2))
-pads-start h w l = record { place = omega arith; col = omega arith; low = omega arith; moved = moving-start _ _ _ _ }
+module _ (h w y x : ℕ) {l m : List ℤ} (r : Row h w y x l m) (ly : y < h + 2) (room : (h + 2) * (w + 2) ≤ length l) where
+  pub pad-more : 1 ≤ x → x < w + 2 → Row h w y (x + 1) l (set m (y * (w + 2) + x) (paddedAt (sheetOf m h w) (y * (w + 2) + x)))
+  pad-more low lx =
+      row-more (y * (w + 2)) x r low (omega (arith, place-in (h + 2) (w + 2) y x ly lx)) _ (padded-same l m h w y x lx (λ q i. r .low q (omega arith)))
 
-pub pads-step : {h w : ℕ} {l m : List ℤ} {y x p : ℕ} → Pads h w l m y x p → 1 ≤ p → (h + 2) * (w + 2) ≤ length l
-    → (v u : ℕ) (c : ℤ) → v * (w + 2) + u + 1 ≡ y * (w + 2) + x → u < w + 2 → c ≡ cond (inside h w v u) (at m ((v - 1) * w + (u - 1))) (negsuc 0)
-    → Pads h w l (set m (p - 1) c) v u (p - 1)
-pads-step {h} {w} {l} {m} {y} {x} {p} k some room v u c on lu e =
-    let up : p - 1 + 1 ≡ p = omega arith in
-    let here : v * (w + 2) + u ≡ p - 1 = omega (arith, k .place) in
-    let old : Moving (negsuc 0) ((h + 2) * (w + 2)) (p - 1 + 1) (paddedAt (sheetOf l h w)) l m = rw up (k .moved) in
-    record {
-      place = here;
-      col = lu;
-      low = omega (arith, k .low);
-      moved = moving-step (negsuc 0) _ _ l (p - 1) m c (omega (arith, k .low)) room old (e ∙ next-cell l m h w v u (p - 1) here lu old);
-    }
+  pub pad-ends : x ≡ w + 1 → (j k : List ℤ) → j ≡ set m (y * (w + 2) + 0) (paddedAt (sheetOf m h w) (y * (w + 2) + 0))
+      → k ≡ set j (y * (w + 2) + (w + 1)) (paddedAt (sheetOf j h w) (y * (w + 2) + (w + 1))) → k ≡ stretch (y * (w + 2)) (w + 2) (paddedAt (sheetOf l h w)) l
+  pad-ends e j k ej ek =
+      let under : (q : ℕ) → q < y * (w + 2) → getD j q (negsuc 0) ≡ getD l q (negsuc 0) = λ q i. ap (λ (c : List ℤ). getD c q (negsuc 0)) ej ∙ getD-set-other m _ q _ (negsuc 0) (λ z. omega arith) ∙ r .low q (omega arith) in
+      ek ∙ ap (λ (c : List ℤ). set c (y * (w + 2) + (w + 1)) (paddedAt (sheetOf j h w) (y * (w + 2) + (w + 1)))) ej
+      ∙ row-ends (y * (w + 2)) x r (omega arith) (w + 2) (w + 1) (omega arith) (omega arith) (omega arith) (omega (arith, place-in (h + 2) (w + 2) y (w + 1) ly (omega arith))) _ _
+      (padded-same l m h w y 0 (omega arith) (λ q i. r .low q (omega arith))) (padded-same l j h w y (w + 1) (omega arith) under)
 
-pub pads-end : {h w : ℕ} {l m : List ℤ} {y x p : ℕ} → Pads h w l m y x p → p ≡ 0 → (h + 2) * (w + 2) ≤ length l → m ≡ filled ((h + 2) * (w + 2)) (paddedAt (sheetOf l h w)) l
-pads-end k e room = moving-end _ _ _ _ _ room (rw e at (k .moved))
+-- padding so far: the rows from y on are done
+pub record Pads (h w y : ℕ) (l m : List ℤ) : Type 0 where
+  pub low : y ≤ h + 2
+  pub moved : Span (negsuc 0) (y * (w + 2)) ((h + 2) * (w + 2)) (paddedAt (sheetOf l h w)) l m
+
+pub pads-start : (h w : ℕ) (l : List ℤ) → Pads h w (h + 2) l l
+pads-start h w l = record { low = omega arith; moved = span-none _ _ _ _ }
+
+pub pads-step : {h w y : ℕ} {l m : List ℤ} → Pads h w y l m → (h + 2) * (w + 2) ≤ length l → (v : ℕ) → v + 1 ≡ y
+    → (k : List ℤ) → k ≡ stretch (v * (w + 2)) (w + 2) (paddedAt (sheetOf m h w)) m → Pads h w v l k
+pads-step {h} {w} {y} {l} {m} s room v up k e =
+    let on : v * (w + 2) + (w + 2) ≡ y * (w + 2) = sym (row-on v (w + 2)) ∙ ap (λ (i : ℕ). i * (w + 2)) up in
+    let below : y * (w + 2) ≤ (h + 2) * (w + 2) = mul-le-mul (s .low) (omega arith) in
+    let row : Span (negsuc 0) (v * (w + 2)) (y * (w + 2)) (paddedAt (sheetOf m h w)) m k = rw (e, sym on) (stretch-span (negsuc 0) (w + 2) (paddedAt (sheetOf m h w)) m (v * (w + 2)) (omega (arith, s .moved .size))) in
+    record { low = omega (arith, s .low); moved = span-before (omega arith) below (s .moved) row (λ q a b. same q a b) }
+  where
+    same : (q : ℕ) → v * (w + 2) ≤ q → q < y * (w + 2) → paddedAt (sheetOf m h w) q ≡ paddedAt (sheetOf l h w) q
+    same q a b =
+        let on : v * (w + 2) + (w + 2) ≡ y * (w + 2) = sym (row-on v (w + 2)) ∙ ap (λ (i : ℕ). i * (w + 2)) up in
+        let e : v * (w + 2) + (q - v * (w + 2)) ≡ q = omega arith in
+        subst (λ (i : ℕ). paddedAt (sheetOf m h w) i ≡ paddedAt (sheetOf l h w) i) e (padded-same l m h w v (q - v * (w + 2)) (omega arith) (λ i k. s .moved .low i (omega arith)))
+
+pub pads-end : {h w y : ℕ} {l m : List ℤ} → Pads h w y l m → y ≡ 0 → (h + 2) * (w + 2) ≤ length l → m ≡ filled ((h + 2) * (w + 2)) (paddedAt (sheetOf l h w)) l
+pads-end {h} {w} k e room = span-filled _ _ _ _ _ room (rw (e, zero-mul (w + 2)) at (k .moved))
 
 -- what stands at the front after padding is the padded sheet
 pub sheet-padded : (l : List ℤ) (h w : ℕ) → sheetOf (filled ((h + 2) * (w + 2)) (paddedAt (sheetOf l h w)) l) (h + 2) (w + 2) ≡ padded (sheetOf l h w)
@@ -142,9 +163,3 @@ module _ (s : Sheet) where
       go (bottom e) = from (s .height + 1) (k .col + 1) (omega arith) (omega (arith, k .in-col)) (λ i. omega arith) (above (omega arith) refl)
       go (start e) = from (k .row + 1) 0 (omega (arith, k .in-row)) (omega arith) (λ i. omega arith) (rightward refl (omega arith))
       go (end e) = from (k .row + 1) (s .width + 1) (omega (arith, k .in-row)) (omega arith) (λ i. omega arith) (leftward refl (omega arith))
-
--- a sheet that can be padded in a list is held by it
-pub held-within : (h w : ℕ) (l m : List ℤ) → h ≤ 512 → w ≤ 512 → (h + 2) * (w + 2) ≤ length l → length m ≡ length l → Held m h w
-held-within h w l m a b room e =
-    let k : h * w ≤ (h + 2) * (w + 2) = mul-le-mul (omega arith) (omega arith) in
-    record { high = omega arith; wide = omega arith; room = omega arith }

@@ -5,9 +5,9 @@ use mathlib.Core.Logic.{_⊎_, inl, inr, ⊎-elim}
 use mathlib.Core.Bool.{Bool, true, false, not, _&&_, _||_}
 use mathlib.Core.List.{List}
 use native.Mathlib.Nat.{div-add-mod', suc-mul, zero-mul}
-use native.Mathlib.Numerals.{add-one}
 use native.Mathlib.Decide.{decLt, ℕ-discrete}
 use native.Mathlib.Omega.{arith}
+use borrow.Author.Tests.{eq-eqb, ne-eqb, lt-ltb, le-ltb}
 use lib.Dec.{leb, eqb}
 use lib.IntN.{ℤ}
 use lib.ListN.{take}
@@ -17,7 +17,8 @@ use Rattle.rules.specs.Regions.{opaque}
 use Rattle.rules.specs.Grid.{close, eight, four}
 use Rattle.rules.specs.Outline.{ring, hasRing}
 use Rattle.grid.proofs.Places.{wide, row-in, col-in, row-of, col-of, place-in}
-use Rattle.outline.proofs.Places.{some-row, row-below, front}
+use Rattle.outline.specs.Rows.{back, ahead}
+use Rattle.outline.proofs.Places.{some-row, row-below, row-on, front}
 
 -- the cell in row v and column u is above, below, left or right of the one in row y and column x
 pub data Beside (y x v u : ℕ) : Type 0 where
@@ -119,23 +120,52 @@ up-place {w = w} {y = y} {x = x} k v e =
     omega (arith, k .place)
 
 down-place : {h w y x p : ℕ} → Spotted h w y x p → p + w ≡ (y + 1) * w + x
-down-place {w = w} {y = y} k = omega (arith, k .place, suc-mul y w, ap (λ (i : ℕ). i * w) (add-one y))
-
--- the place of a cell beside it is a place of the sheet
-pub up-in : {h w y x p : ℕ} → Spotted h w y x p → 1 ≤ y → (w ≤ p) × (p - w < h * w)
-up-in {h} {w} {y} {x} k l =
-    let e = up-place k (y - 1) (omega arith) in
-    let i = place-in h w (y - 1) x (omega (arith, k .row)) (k .col) in
-    (omega arith, omega arith)
-
-pub down-in : {h w y x p : ℕ} → Spotted h w y x p → y + 1 < h → p + w < h * w
-down-in {h} {w} {y} {x} k l = omega (arith, down-place k, place-in h w (y + 1) x l (k .col))
+down-place {w = w} {y = y} k = omega (arith, k .place, row-on y w)
 
 pub here-in : {h w y x p : ℕ} → Spotted h w y x p → p < h * w
 here-in {h} {w} {y} {x} k = omega (arith, k .place, place-in h w y x (k .row) (k .col))
 
-pub right-in : {h w y x p : ℕ} → Spotted h w y x p → x + 1 < w → p + 1 < h * w
-right-in {h} {w} {y} {x} k l = omega (arith, k .place, place-in h w y (x + 1) (k .row) l)
+-- the places a step before and after one, where there are such, and where there are none
+back-on : (p step i : ℕ) → 1 ≤ i → back p step i ≡ p - step
+unfolding back
+back-on p step i h = rw (ne-eqb i 0 (λ z. omega arith))
+
+back-off : (p step i : ℕ) → i ≡ 0 → back p step i ≡ p
+unfolding back
+back-off p step i e = rw (eq-eqb i 0 e)
+
+ahead-on : (p step i n : ℕ) → i + 1 < n → ahead p step i n ≡ p + step
+unfolding ahead
+ahead-on p step i n h = rw (lt-ltb (i + 1) n h)
+
+ahead-off : (p step i n : ℕ) → n ≤ i + 1 → ahead p step i n ≡ p
+unfolding ahead
+ahead-off p step i n h = rw (le-ltb (i + 1) n h)
+
+back-in : (p step i m : ℕ) → p < m → back p step i < m
+back-in p step i m h = elim (ℕ-discrete i 0) [ yes e ↦ omega (arith, back-off p step i e) | no z ↦ omega (arith, back-on p step i (omega arith)) ]
+
+ahead-in : (p step i n m : ℕ) → p < m → (i + 1 < n → p + step < m) → ahead p step i n < m
+ahead-in p step i n m h f = elim (decLt (i + 1) n) [ yes y ↦ omega (arith, ahead-on p step i n y, f y) | no z ↦ omega (arith, ahead-off p step i n (omega arith)) ]
+
+-- the four places that are looked at lie on the sheet
+pub record Around (h w y x p : ℕ) : Type 0 where
+  pub row : 0 < y → w ≤ p
+  pub above : back p w y < h * w
+  pub below : ahead p w y h < h * w
+  pub left : back p 1 x < h * w
+  pub right : ahead p 1 x w < h * w
+
+pub around : {h w y x p : ℕ} → Spotted h w y x p → Around h w y x p
+around {h} {w} {y} {x} {p} k =
+    let here : p < h * w = here-in k in
+    record {
+      row = λ l. omega (arith, up-place k (y - 1) (omega arith));
+      above = back-in p w y (h * w) here;
+      below = ahead-in p w y h (h * w) here (λ l. omega (arith, down-place k, place-in h w (y + 1) x l (k .col)));
+      left = back-in p 1 x (h * w) here;
+      right = ahead-in p 1 x w (h * w) here (λ l. omega (arith, k .place, place-in h w y (x + 1) (k .row) l));
+    }
 
 -- a walk over all places, row after row
 pub record Walk (h w y x p : ℕ) : Type 0 where
@@ -165,45 +195,79 @@ module _ (cells : List ℤ) {h w y x p : ℕ} (k : Spotted h w y x p) where
   unfolding sheetOf
   ring-opaque o = at-place (ring-solid (sheetOf cells h w) y x (k .row) (k .col) (same-cell y x p (k .row) (k .col) (k .place) ∙ o))
 
+  -- a transparent one is, if one of the four is opaque: where it stands for one itself, that one is transparent
   module _ (clear : opaque cells p ≡ false) where
     beside : (v u q : ℕ) → v < h → u < w → q ≡ v * w + u → Beside y x v u → opaque cells q ≡ true → ring (sheetOf cells h w) p ≡ true
     unfolding sheetOf
     beside v u q lv lu e b o =
         at-place (ring-yes (sheetOf cells h w) y x (k .row) (k .col) v u lv lu b (same-cell y x p (k .row) (k .col) (k .place) ∙ clear) (same-cell v u q lv lu e ∙ o))
 
-    pub ring-above : 1 ≤ y → opaque cells (p - w) ≡ true → ring (sheetOf cells h w) p ≡ true
-    ring-above l o = beside (y - 1) x (p - w) (omega (arith, k .row)) (k .col) (omega (arith, up-place k (y - 1) (omega arith))) (above (omega arith) refl) o
+    -- an opaque place that is looked at is not p
+    apart : (q : ℕ) → opaque cells q ≡ true → q ≡ p → ⊥
+    apart q o e = clash (subst (λ (i : ℕ). opaque cells i ≡ true) e o) clear
 
-    pub ring-below : y + 1 < h → opaque cells (p + w) ≡ true → ring (sheetOf cells h w) p ≡ true
-    ring-below l o = beside (y + 1) x (p + w) l (k .col) (down-place k) (below refl refl) o
+    from-back : (step i : ℕ) → opaque cells (back p step i) ≡ true → (1 ≤ i) × (opaque cells (p - step) ≡ true)
+    from-back step i o =
+        elim (ℕ-discrete i 0) [
+          | yes e ↦ absurd (apart _ o (back-off p step i e))
+          | no z ↦ (omega arith, subst (λ (q : ℕ). opaque cells q ≡ true) (back-on p step i (omega arith)) o)
+        ]
 
-    pub ring-left : 1 ≤ x → opaque cells (p - 1) ≡ true → ring (sheetOf cells h w) p ≡ true
-    ring-left l o = beside y (x - 1) (p - 1) (k .row) (omega (arith, k .col)) (omega (arith, k .place)) (leftward refl (omega arith)) o
+    from-ahead : (step i n : ℕ) → opaque cells (ahead p step i n) ≡ true → (i + 1 < n) × (opaque cells (p + step) ≡ true)
+    from-ahead step i n o =
+        elim (decLt (i + 1) n) [
+          | yes l ↦ (l, subst (λ (q : ℕ). opaque cells q ≡ true) (ahead-on p step i n l) o)
+          | no z ↦ absurd (apart _ o (ahead-off p step i n (omega arith)))
+        ]
 
-    -- the cell to the right decides, where the three others are transparent
-    pub ring-right : (1 ≤ y → opaque cells (p - w) ≡ false) → (y + 1 < h → opaque cells (p + w) ≡ false) → (1 ≤ x → opaque cells (p - 1) ≡ false)
-        → (r : Bool) → (x + 1 < w → r ≡ opaque cells (p + 1)) → (w ≤ x + 1 → r ≡ false) → r ≡ ring (sheetOf cells h w) p
-    unfolding sheetOf
-    ring-right a b c r yes-right no-right = same-test forth back
+    abbrev Near : Bool
+    Near = opaque cells (back p w y) || opaque cells (ahead p w y h) || (opaque cells (back p 1 x) || opaque cells (ahead p 1 x w))
+
+    near-ring : Near ≡ true → ring (sheetOf cells h w) p ≡ true
+    near-ring e = ⊎-elim (λ a. ⊎-elim up down (either _ _ a)) (λ a. ⊎-elim leftwards rightwards (either _ _ a)) (either (opaque cells (back p w y) || opaque cells (ahead p w y h)) _ e)
       where
-        forth : r ≡ true → ring (sheetOf cells h w) p ≡ true
-        forth e =
-            elim (decLt (x + 1) w) [
-              | yes l ↦ beside y (x + 1) (p + 1) (k .row) l (omega (arith, k .place)) (rightward refl refl) (sym (yes-right l) ∙ e)
-              | no g ↦ clash e (no-right (omega arith))
-            ]
+        up : opaque cells (back p w y) ≡ true → ring (sheetOf cells h w) p ≡ true
+        up o =
+            let r = from-back w y o in
+            beside (y - 1) x (p - w) (omega (arith, k .row)) (k .col) (omega (arith, up-place k (y - 1) (omega arith))) (above (omega arith) refl) (r .1)
 
-        quiet : r ≡ false → (v u : ℕ) → v < h → u < w → Beside y x v u → opaque (take (h * w) cells) (v * w + u) ≡ false
-        quiet z v u lv lu (above e f) = same-cell v u (p - w) lv lu (omega (arith, up-place k v e)) ∙ a (omega arith)
-        quiet z v u lv lu (below e f) =
+        down : opaque cells (ahead p w y h) ≡ true → ring (sheetOf cells h w) p ≡ true
+        down o = let r = from-ahead w y h o in beside (y + 1) x (p + w) (r .0) (k .col) (down-place k) (below refl refl) (r .1)
+
+        leftwards : opaque cells (back p 1 x) ≡ true → ring (sheetOf cells h w) p ≡ true
+        leftwards o =
+            let r = from-back 1 x o in
+            beside y (x - 1) (p - 1) (k .row) (omega (arith, k .col)) (omega (arith, k .place)) (leftward refl (omega arith)) (r .1)
+
+        rightwards : opaque cells (ahead p 1 x w) ≡ true → ring (sheetOf cells h w) p ≡ true
+        rightwards o = let r = from-ahead 1 x w o in beside y (x + 1) (p + 1) (k .row) (r .0) (omega (arith, k .place)) (rightward refl refl) (r .1)
+
+    -- an opaque cell beside it is seen
+    seen : (v u : ℕ) → v < h → u < w → Beside y x v u → opaque cells (v * w + u) ≡ true → Near ≡ true
+    seen v u lv lu b o = go b
+      where
+        at : (q : ℕ) → q ≡ v * w + u → opaque cells q ≡ true
+        at q e = subst (λ (i : ℕ). opaque cells i ≡ true) (sym e) o
+
+        go : Beside y x v u → Near ≡ true
+        go (above e f) = or-left _ (or-left _ (at _ (back-on p w y (omega arith) ∙ omega (arith, up-place k v e))))
+        go (below e f) =
             let row : v * w ≡ (y + 1) * w = ap (λ (i : ℕ). i * w) e in
-            same-cell v u (p + w) lv lu (omega (arith, down-place k)) ∙ b (omega arith)
-        quiet z v u lv lu (leftward e f) =
+            or-left _ (or-right (opaque cells (back p w y)) (at _ (ahead-on p w y h (omega arith) ∙ omega (arith, down-place k))))
+        go (leftward e f) =
             let row : v * w ≡ y * w = ap (λ (i : ℕ). i * w) e in
-            same-cell v u (p - 1) lv lu (omega (arith, k .place)) ∙ c (omega arith)
-        quiet z v u lv lu (rightward e f) =
+            or-right (opaque cells (back p w y) || opaque cells (ahead p w y h)) (or-left _ (at _ (back-on p 1 x (omega arith) ∙ omega (arith, k .place))))
+        go (rightward e f) =
             let row : v * w ≡ y * w = ap (λ (i : ℕ). i * w) e in
-            same-cell v u (p + 1) lv lu (omega (arith, k .place)) ∙ sym (yes-right (omega arith)) ∙ z
+            or-right (opaque cells (back p w y) || opaque cells (ahead p w y h)) (or-right (opaque cells (back p 1 x)) (at _ (ahead-on p 1 x w (omega arith) ∙ omega (arith, k .place))))
 
-        back : ring (sheetOf cells h w) p ≡ true → r ≡ true
-        back e = case r (λ q. q) (λ z. clash e (at-place (ring-no (sheetOf cells h w) y x (k .row) (k .col) (quiet z))))
+    -- so four tests decide it
+    pub ring-near : {a b c e : Bool} → a ≡ opaque cells (back p w y) → b ≡ opaque cells (ahead p w y h) → c ≡ opaque cells (back p 1 x) → e ≡ opaque cells (ahead p 1 x w)
+        → (a || b || (c || e)) ≡ ring (sheetOf cells h w) p
+    unfolding sheetOf
+    ring-near ea eb ec ee =
+        rw (ea, eb, ec, ee) (same-test near-ring (λ r. case Near (λ y. y) (λ z. clash r (at-place (ring-no (sheetOf cells h w) y x (k .row) (k .col) (quiet z))))))
+      where
+        quiet : Near ≡ false → (v u : ℕ) → v < h → u < w → Beside y x v u → opaque (take (h * w) cells) (v * w + u) ≡ false
+        quiet z v u lv lu b =
+            case (opaque (take (h * w) cells) (v * w + u)) (λ o. clash (seen v u lv lu b (sym (same-cell v u (v * w + u) lv lu refl) ∙ o)) z) (λ n. n)

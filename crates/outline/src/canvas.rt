@@ -3,13 +3,14 @@ ghost use mathlib.Core.Path.{_≡_};
 ghost use mathlib.Core.Bool.{cond};
 ghost use Prim.Native.Nat.{ℕ, _+_, _-_, _*_, _<_, _≤_};
 ghost use lib.IntN.{negsuc};
-ghost use lib.ListN.{length};
+ghost use lib.ListN.{length, set};
 ghost use Rattle.base.specs.Places.{any};
 ghost use Rattle.base.specs.Outputs.{filled};
 ghost use Rattle.rules.specs.Sheet.{sheetOf};
 ghost use Rattle.rules.specs.Regions.{at, opaque};
 ghost use Rattle.rules.specs.Outline.{touches, paddedAt};
 ghost use Rattle.outline.specs.Room.{Held, fromOne, inside};
+ghost use Rattle.outline.specs.Rows.{stretch};
 
 // A cell's row and column.
 pub struct Spot {
@@ -27,20 +28,6 @@ pub fn after(s: Spot, w: usize) -> Spot
         return Spot { y: s.y + 1, x: 0 };
     }
     Spot { y: s.y, x: next }
-}
-
-// The cell before s, in rows of w.
-fn before(s: Spot, w: usize) -> Spot
-    requires { ⌜ (0 < s .y * w + s .x) × (s .x < w) ⌝ }
-    ensures { λ r. ⌜ (r .y * w + r .x + 1 ≡ s .y * w + s .x) × (r .x < w) ⌝ }
-{
-    if s.x == 0 {
-        return Spot {
-            y: s.y - 1,
-            x: w - 1,
-        };
-    }
-    Spot { y: s.y, x: s.x - 1 }
 }
 
 // Whether the cell at p is opaque.
@@ -114,18 +101,39 @@ fn padded_cell(cells: &[i32], h: usize, w: usize, y: usize, x: usize) -> i32
     }
 }
 
-// Puts one cell of -1 on every side, in place: the last cell is written first, and what is still to be read lies below it.
+// Writes the cell in row y and column x of the padded sheet.
+fn pad_cell(cells: &mut [i32], h: usize, w: usize, y: usize, x: usize)
+    requires { ⌜ (h ≤ 512) × (w ≤ 512) × ((h + 2) * (w + 2) ≤ length (now cells)) ⌝ }
+    requires { ⌜ (y < h + 2) × (x < w + 2) ⌝ }
+    ensures { λ r. ⌜ now (cells .exit) ≡ set (now (cells .entry)) (y * (w + 2) + x) (paddedAt (sheetOf (now (cells .entry)) h w) (y * (w + 2) + x)) ⌝ }
+{
+    let p = y * (w + 2) + x;
+    let c = padded_cell(cells, h, w, y, x);
+    cells[p] = c;
+}
+
+// Writes row y of the padded sheet: what it is made of lies below it. Its ends are apart: between them all cells lie on the sheet, or none.
+fn pad_row(cells: &mut [i32], h: usize, w: usize, y: usize)
+    requires { ⌜ (h ≤ 512) × (w ≤ 512) × ((h + 2) * (w + 2) ≤ length (now cells)) ⌝ }
+    requires { ⌜ y < h + 2 ⌝ }
+    ensures { λ r. ⌜ now (cells .exit) ≡ stretch (y * (w + 2)) (w + 2) (paddedAt (sheetOf (now (cells .entry)) h w)) (now (cells .entry)) ⌝ }
+{
+    let last = w + 1;
+    for x in 1..last {
+        pad_cell(cells, h, w, y, x);
+    }
+    pad_cell(cells, h, w, y, 0);
+    pad_cell(cells, h, w, y, last);
+}
+
+// Puts one cell of -1 on every side, in place: the last row is written first, and what is still to be read lies below it.
 pub fn pad(cells: &mut [i32], h: usize, w: usize)
     requires { ⌜ (h ≤ 512) × (w ≤ 512) × ((h + 2) * (w + 2) ≤ length (now cells)) ⌝ }
     ensures { λ r. ⌜ now (cells .exit) ≡ filled ((h + 2) * (w + 2)) (paddedAt (sheetOf (now (cells .entry)) h w)) (now (cells .entry)) ⌝ }
 {
-    let wide = w + 2;
-    let mut s = Spot { y: h + 2, x: 0 };
-    let mut p = (h + 2) * wide;
-    while p > 0 {
-        p -= 1;
-        s = before(s, wide);
-        let c = padded_cell(cells, h, w, s.y, s.x);
-        cells[p] = c;
+    let mut y = h + 2;
+    while y > 0 {
+        y -= 1;
+        pad_row(cells, h, w, y);
     }
 }

@@ -1,116 +1,108 @@
--- `outline::ring::ring_at` meets its contract. The four cells beside it, one after the other. Assumes nothing.
-use Prim.Native.Nat.{_+_, _-_, _≤_, _<_}
-use mathlib.Core.Path.{_≡_, sym, _∙_}
-use mathlib.Core.Logic.{⊎-elim}
-use mathlib.Core.Bool.{false}
+-- `outline::ring::ring_at` meets its contract. The four places that are looked at, then the cell itself. Assumes nothing.
+use Prim.Native.Nat.{ℕ}
+use mathlib.Core.Path.{_≡_, sym, ap, _∙_}
+use mathlib.Core.Bool.{Bool}
 use native.Mathlib.Omega.{arith}
-use borrow.Author.Tests.{le-ltb}
+use borrow.Author.Needs.{needs}
 use Rattle.rules.specs.Regions.{opaque}
 use Rattle.grid.proofs.Places.{area as area-fits}
-use Rattle.outline.proofs.Rings.{Spotted, here-in, up-in, down-in, right-in, ring-opaque, ring-above, ring-below, ring-left, ring-right}
+use Rattle.outline.proofs.Rings.{Spotted, here-in, Around, around, ring-opaque, ring-near}
 use Rattle.outline.proofs.ring.ring_at.Statement.{statement}
 use Rattle.outline.proofs.ring.ring_at.Tie as tie
 
 spot : (c : tie.Start) → Spotted (c .args .h) (c .args .w) (c .args .y) (c .args .x) (c .args .p)
 spot c = record { row = c .pre .1 .0; col = c .pre .1 .1; place = c .pre .1 .2 }
 
-clear : (c : tie.Else1) → opaque (c .before .before .args .cells .now) (c .before .before .args .p) ≡ false
-clear c = sym (c .before .solid .ensures) ∙ c .if1 .left
+abbrev start : tie.After-solid4 → tie.Start
+start c = c .before .before .before .before .before .before .before .before
 
-no-above : (c : tie.Joined2) → 1 ≤ c .before .before .before .args .y → opaque (c .before .before .before .args .cells .now) (c .before .before .before .args .p - c .before .before .before .args .w) ≡ false
-no-above c l = ⊎-elim (λ t. sym (t .1 .ensures) ∙ t .2 .left) (λ t. absurd (omega (arith, t .left))) (c .if2 .came)
-
-no-below : (c : tie.Joined4) → c .before .before .before .before .args .y + 1 < c .before .before .before .before .args .h → opaque (c .before .before .before .before .args .cells .now) (c .before .before .before .before .args .p + c .before .before .before .before .args .w) ≡ false
-no-below c l = ⊎-elim (λ t. sym (t .1 .ensures) ∙ t .2 .left) (λ t. absurd (omega (arith, t .left))) (c .if4 .came)
-
-no-left : (c : tie.Joined6) → 1 ≤ c .before .before .before .before .before .args .x → opaque (c .before .before .before .before .before .args .cells .now) (c .before .before .before .before .before .args .p - 1) ≡ false
-no-left c l = ⊎-elim (λ t. sym (t .1 .ensures) ∙ t .2 .left) (λ t. absurd (omega (arith, t .left))) (c .if6 .came)
+back-requires : tie.Need-back-requires
+back-requires c κs = around (spot c) .row
 
 solid-requires : tie.Need-solid-requires
-solid-requires c κs = omega (arith, here-in (spot c), c .pre .0 .room)
+solid-requires c κs =
+    let s = c .before in
+    omega (arith, c .back .ensures, around (spot s) .above, s .pre .0 .room)
 
-returns : tie.Need-returns
-returns c = sym (ring-opaque _ (spot (c .before .before)) (sym (c .before .solid .ensures) ∙ c .if1 .taken))
-
-sub-solid : tie.Need-sub-solid
-sub-solid c = up-in (spot (c .before .before .before)) (omega arith) .0
+ahead-requires : tie.Need-ahead-requires
+ahead-requires c κs =
+    let s = c .before .before in
+    (s .pre .1 .0, omega (arith, here-in (spot s), area-fits _ _ (s .pre .0 .high) (s .pre .0 .wide)), s .pre .0 .wide)
 
 solid-requires-2 : tie.Need-solid-requires-2
-solid-requires-2 c κs = omega (arith, up-in (spot (c .before .before .before)) (omega arith) .1, c .before .before .before .pre .0 .room)
+solid-requires-2 c κs =
+    let s = c .before .before .before in
+    omega (arith, c .ahead .ensures, around (spot s) .below, s .pre .0 .room)
+
+back-requires-2 : tie.Need-back-requires-2
+back-requires-2 c κs = search needs
+
+solid-requires-3 : tie.Need-solid-requires-3
+solid-requires-3 c κs =
+    let s = c .before .before .before .before .before in
+    omega (arith, c .back2 .ensures, around (spot s) .left, s .pre .0 .room)
+
+ahead-requires-2 : tie.Need-ahead-requires-2
+ahead-requires-2 c κs =
+    let s = c .before .before .before .before .before .before in
+    (s .pre .1 .1, omega (arith, here-in (spot s), area-fits _ _ (s .pre .0 .high) (s .pre .0 .wide)), omega arith)
+
+solid-requires-4 : tie.Need-solid-requires-4
+solid-requires-4 c κs =
+    let s = c .before .before .before .before .before .before .before in
+    omega (arith, c .ahead2 .ensures, around (spot s) .right, s .pre .0 .room)
+
+either-requires : tie.Need-either-requires
+either-requires c κs = search needs
+
+either-requires-2 : tie.Need-either-requires-2
+either-requires-2 c κs = search needs
+
+either-requires-3 : tie.Need-either-requires-3
+either-requires-3 c κs = search needs
+
+solid-requires-5 : tie.Need-solid-requires-5
+solid-requires-5 c κs =
+    let s = start (c .before .before .before) in
+    omega (arith, here-in (spot s), s .pre .0 .room)
+
+returns : tie.Need-returns
+returns c = sym (ring-opaque _ (spot (start (c .before .before .before .before .before))) (sym (c .before .solid5 .ensures) ∙ c .if1 .taken))
 
 returns-2 : tie.Need-returns-2
 returns-2 c =
-    let e = c .before .before .before in
-    sym (ring-above _ (spot (e .before .before)) (clear e) (omega arith) (sym (c .before .solid2 .ensures) ∙ c .if3 .taken))
-
-add-if4 : tie.Need-add-if4
-add-if4 c = omega arith
-
-add-solid : tie.Need-add-solid
-add-solid c =
-    let s = c .before .before .before .before in
-    record { fits = omega (arith, down-in (spot s) (omega arith), area-fits (s .args .h) (s .args .w) (s .pre .0 .high) (s .pre .0 .wide)) }
-
-solid-requires-3 : tie.Need-solid-requires-3
-solid-requires-3 c κs = omega (arith, down-in (spot (c .before .before .before .before)) (omega arith), c .before .before .before .before .pre .0 .room)
-
-returns-3 : tie.Need-returns-3
-returns-3 c =
-    let e = c .before .before .before .before in
-    sym (ring-below _ (spot (e .before .before)) (clear e) (omega arith) (sym (c .before .solid3 .ensures) ∙ c .if5 .taken))
-
-sub-solid-2 : tie.Need-sub-solid-2
-sub-solid-2 c = omega arith
-
-solid-requires-4 : tie.Need-solid-requires-4
-solid-requires-4 c κs = omega (arith, here-in (spot (c .before .before .before .before .before)), c .before .before .before .before .before .pre .0 .room)
-
-returns-4 : tie.Need-returns-4
-returns-4 c =
-    let e = c .before .before .before .before .before in
-    sym (ring-left _ (spot (e .before .before)) (clear e) (omega arith) (sym (c .before .solid4 .ensures) ∙ c .if7 .taken))
-
-add-if8 : tie.Need-add-if8
-add-if8 c = omega arith
-
-add-solid-2 : tie.Need-add-solid-2
-add-solid-2 c =
-    let s = c .before .before .before .before .before .before in
-    record { fits = omega (arith, right-in (spot s) (omega arith), area-fits (s .args .h) (s .args .w) (s .pre .0 .high) (s .pre .0 .wide)) }
-
-solid-requires-5 : tie.Need-solid-requires-5
-solid-requires-5 c κs = omega (arith, right-in (spot (c .before .before .before .before .before .before)) (omega arith), c .before .before .before .before .before .before .pre .0 .room)
-
-returns-5 : tie.Need-returns-5
-returns-5 c =
-    let j = c .before .before in
-    let e = j .before .before .before in
-    ring-right _ (spot (e .before .before)) (clear e) (no-above (j .before .before)) (no-below (j .before)) (no-left j) _ (λ l. c .solid5 .ensures) (λ g. absurd (omega arith))
-
-returns-6 : tie.Need-returns-6
-returns-6 c =
-    let j = c .before in
-    let e = j .before .before .before in
-    ring-right _ (spot (e .before .before)) (clear e) (no-above (j .before .before)) (no-below (j .before)) (no-left j) _ (λ l. absurd (omega arith)) (λ g. le-ltb _ _ g)
+    let e = c .before .before in
+    let f = e .before in
+    let g = f .before in
+    let right = g .before in
+    let left = right .before .before in
+    let below = left .before .before in
+    let above = below .before .before in
+    let s = start right in
+    let look : ℕ → Bool = opaque (s .args .cells .now) in
+    e .either3 .ensures
+    ∙ rw (g .either .ensures, f .either2 .ensures)
+    (ring-near _ (spot s) (sym (c .before .solid5 .ensures) ∙ c .if1 .left)
+    (above .solid .ensures ∙ ap look (above .before .back .ensures))
+    (below .solid2 .ensures ∙ ap look (below .before .ahead .ensures))
+    (left .solid3 .ensures ∙ ap look (left .before .back2 .ensures))
+    (right .solid4 .ensures ∙ ap look (right .before .ahead2 .ensures)))
 
 pub ring-at-spec : {M : Type 1} → statement M
 ring-at-spec =
     tie.close
     (tie.spec
+    back-requires
     solid-requires
-    returns
-    sub-solid
+    ahead-requires
     solid-requires-2
-    returns-2
-    add-if4
-    add-solid
+    back-requires-2
     solid-requires-3
-    returns-3
-    sub-solid-2
+    ahead-requires-2
     solid-requires-4
-    returns-4
-    add-if8
-    add-solid-2
+    either-requires
+    either-requires-2
+    either-requires-3
     solid-requires-5
-    returns-5
-    returns-6)
+    returns
+    returns-2)
