@@ -96,16 +96,17 @@ pads-start h w l = record { low = omega arith; moved = span-none _ _ _ _ }
 pub pads-step : {h w y : ℕ} {l m : List ℤ} → Pads h w y l m → (h + 2) * (w + 2) ≤ length l → (v : ℕ) → v + 1 ≡ y
     → (k : List ℤ) → k ≡ stretch (v * (w + 2)) (w + 2) (paddedAt (sheetOf m h w)) m → Pads h w v l k
 pads-step {h} {w} {y} {l} {m} s room v up k e =
-    let on : v * (w + 2) + (w + 2) ≡ y * (w + 2) = sym (row-on v (w + 2)) ∙ ap (λ (i : ℕ). i * (w + 2)) up in
     let below : y * (w + 2) ≤ (h + 2) * (w + 2) = mul-le-mul (s .low) (omega arith) in
-    let row : Span (negsuc 0) (v * (w + 2)) (y * (w + 2)) (paddedAt (sheetOf m h w)) m k = rw (e, sym on) (stretch-span (negsuc 0) (w + 2) (paddedAt (sheetOf m h w)) m (v * (w + 2)) (omega (arith, s .moved .size))) in
-    record { low = omega (arith, s .low); moved = span-before (omega arith) below (s .moved) row (λ q a b. same q a b) }
+    let row : Span (negsuc 0) (v * (w + 2)) (y * (w + 2)) (paddedAt (sheetOf m h w)) m k = rw (e, sym on) (stretch-span (negsuc 0) (w + 2) (paddedAt (sheetOf m h w)) m (v * (w + 2)) (omega (arith, on, s .moved .size))) in
+    record { low = omega (arith, s .low); moved = span-before (omega (arith, on)) below (s .moved) row same }
   where
+    on : v * (w + 2) + (w + 2) ≡ y * (w + 2)
+    on = sym (row-on v (w + 2)) ∙ ap (λ (i : ℕ). i * (w + 2)) up
+
     same : (q : ℕ) → v * (w + 2) ≤ q → q < y * (w + 2) → paddedAt (sheetOf m h w) q ≡ paddedAt (sheetOf l h w) q
     same q a b =
-        let on : v * (w + 2) + (w + 2) ≡ y * (w + 2) = sym (row-on v (w + 2)) ∙ ap (λ (i : ℕ). i * (w + 2)) up in
         let e : v * (w + 2) + (q - v * (w + 2)) ≡ q = omega arith in
-        subst (λ (i : ℕ). paddedAt (sheetOf m h w) i ≡ paddedAt (sheetOf l h w) i) e (padded-same l m h w v (q - v * (w + 2)) (omega arith) (λ i k. s .moved .low i (omega arith)))
+        subst (λ (i : ℕ). paddedAt (sheetOf m h w) i ≡ paddedAt (sheetOf l h w) i) e (padded-same l m h w v (q - v * (w + 2)) (omega (arith, on)) (λ i k. s .moved .low i (omega (arith, on))))
 
 pub pads-end : {h w y : ℕ} {l m : List ℤ} → Pads h w y l m → y ≡ 0 → (h + 2) * (w + 2) ≤ length l → m ≡ filled ((h + 2) * (w + 2)) (paddedAt (sheetOf l h w)) l
 pads-end {h} {w} k e room = span-filled _ _ _ _ _ room (rw (e, zero-mul (w + 2)) at (k .moved))

@@ -44,8 +44,7 @@ fn either(a: bool, b: bool) -> bool
     a || b
 }
 
-// Whether the cell at p, in row y and column x, is of the ring. All five cells are read before one is judged, so that many
-// places can be tested at once; where there is no cell beside it, it stands for that cell itself, being transparent if it counts.
+// Whether the cell at p, in row y and column x, is of the ring. Off the sheet p itself is read, which adds nothing, so that no read hangs on a test.
 fn ring_at(cells: &[i32], h: usize, w: usize, p: usize, y: usize, x: usize) -> bool
     requires { ⌜ Held (now cells) h w ⌝ }
     requires { ⌜ (y < h) × (x < w) × (p ≡ y * w + x) ⌝ }
@@ -131,7 +130,7 @@ fn tinted(m: u32, c: i32, ink: i32) -> i32
     if m == 0 { c } else { ink }
 }
 
-// Gives the marked ones of the first n cells an index. Every cell is written, so that many can be at once.
+// Gives the marked ones of the first n cells an index. Every cell is written, so that no write hangs on a test.
 pub fn ink(cells: &mut [i32], n: usize, marks: &[u32], index: usize)
     requires { ⌜ (n ≤ length (now cells)) × (n ≤ length (now marks)) × (index ≤ 256) ⌝ }
     ensures { λ r. ⌜ now (cells .exit) ≡ filled n (λ p. cond (eqb (getD (now (marks .entry)) p 0) 0) (at (now (cells .entry)) p) (pos index)) (now (cells .entry)) ⌝ }

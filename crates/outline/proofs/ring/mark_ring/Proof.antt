@@ -1,5 +1,5 @@
 -- `outline::ring::mark_ring` meets its contract. The loop: the rows before y are marked. Assumes nothing.
-use Prim.Native.Nat.{ℕ, _-_, _*_, _≤_}
+use Prim.Native.Nat.{_-_, _*_, _≤_}
 use mathlib.Core.Path.{_≡_}
 use mathlib.Core.Bool.{cond}
 use native.Mathlib.Nat.{zero-mul}

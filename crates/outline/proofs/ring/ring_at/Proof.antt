@@ -1,12 +1,12 @@
 -- `outline::ring::ring_at` meets its contract. The four places that are looked at, then the cell itself. Assumes nothing.
 use Prim.Native.Nat.{ℕ}
-use mathlib.Core.Path.{_≡_, sym, ap, _∙_}
+use mathlib.Core.Path.{sym, ap, _∙_}
 use mathlib.Core.Bool.{Bool}
 use native.Mathlib.Omega.{arith}
 use borrow.Author.Needs.{needs}
 use Rattle.rules.specs.Regions.{opaque}
 use Rattle.grid.proofs.Places.{area as area-fits}
-use Rattle.outline.proofs.Rings.{Spotted, here-in, Around, around, ring-opaque, ring-near}
+use Rattle.outline.proofs.Rings.{Spotted, here-in, around, ring-opaque, ring-near}
 use Rattle.outline.proofs.ring.ring_at.Statement.{statement}
 use Rattle.outline.proofs.ring.ring_at.Tie as tie
 
