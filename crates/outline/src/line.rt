@@ -1,8 +1,10 @@
 // The outline's colour, and the palette entry that carries it.
+use channel::threshold_table;
 use color::Lab;
 use color::Rgb8;
 use color::cielab::distance;
 use color::cielab::entry;
+use color::cielab::lab_to_rgb8_by;
 use color::cielab::lab_to_rgb8_one;
 use color::cielab::rgb8_to_lab_one;
 use rules::Outline;
@@ -10,6 +12,7 @@ ghost use mathlib.Core.Path.{_≡_};
 ghost use mathlib.Core.Bool.{true};
 ghost use Prim.Native.Nat.{_+_, _*_, _<_, _≤_};
 ghost use lib.ListN.{length};
+ghost use Rattle.channel.specs.Channel.{ThresholdTable};
 ghost use Rattle.color.specs.Lab.{labToRgb8};
 ghost use Rattle.rules.specs.Palette.{paletteOf, colour, recoloured, firstWhere};
 ghost use Rattle.rules.specs.Outline.{darkest, darkened, lineColour, nearestEntry, sameRgb8, choice};
@@ -111,17 +114,27 @@ pub enum Found {
     Nowhere,
 }
 
+// The first entry with an RGB8, by a table that was made before.
+fn first_same_by(table: &[u64], palette: &[f64], k: usize, rgb: Rgb8) -> Found
+    requires { ⌜ ThresholdTable (now table) ⌝ }
+    requires { ⌜ (3 * k ≤ length (now palette)) × (k ≤ 256) ⌝ }
+    ensures { λ r. ⌜ r ≡ found (firstWhere (λ i. sameRgb8 (labToRgb8 (colour (paletteOf (now (palette .entry)) k) i)) rgb) k) ⌝ }
+{
+    for i in 0..k {
+        if same_rgb8(lab_to_rgb8_by(table, entry(palette, i)), rgb) {
+            return Found::At(i);
+        }
+    }
+    Found::Nowhere
+}
+
 // The first entry with an RGB8.
 fn first_same(palette: &[f64], k: usize, rgb: Rgb8) -> Found
     requires { ⌜ (3 * k ≤ length (now palette)) × (k ≤ 256) ⌝ }
     ensures { λ r. ⌜ r ≡ found (firstWhere (λ i. sameRgb8 (labToRgb8 (colour (paletteOf (now (palette .entry)) k) i)) rgb) k) ⌝ }
 {
-    for i in 0..k {
-        if same_rgb8(lab_to_rgb8_one(entry(palette, i)), rgb) {
-            return Found::At(i);
-        }
-    }
-    Found::Nowhere
+    let table = threshold_table();
+    first_same_by(&table, palette, k, rgb)
 }
 
 // Writes a colour to the entry i.
