@@ -10,10 +10,6 @@ use lib.Signed.{nonNeg}
 use lib.ListN.{take}
 use lib.Seq.{getD-take}
 use Rattle.rules.specs.Regions.{at, opaque}
-use Rattle.grid.proofs.Places.{row-in, row-of}
-
-pub row-below : (h w y x : ℕ) → x < w → y * w + x < h * w → y < h
-row-below h w y x lx l = subst (λ (n : ℕ). n < h) (row-of w y x lx) (row-in h w (y * w + x) l)
 
 -- the row before one
 pub row-back : (y w : ℕ) → 1 ≤ y → (y - 1) * w + w ≡ y * w

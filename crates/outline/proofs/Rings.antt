@@ -4,21 +4,22 @@ use mathlib.Core.Path.{_≡_, refl, sym, ap, _∙_, subst}
 use mathlib.Core.Logic.{_⊎_, inl, inr, ⊎-elim}
 use mathlib.Core.Bool.{Bool, true, false, not, _&&_, _||_}
 use mathlib.Core.List.{List}
-use native.Mathlib.Nat.{div-add-mod', suc-mul, zero-mul}
+use native.Mathlib.Nat.{div-add-mod', suc-mul, mul-zero}
 use native.Mathlib.Decide.{decLt, ℕ-discrete}
 use native.Mathlib.Omega.{arith}
 use borrow.Author.Tests.{eq-eqb, ne-eqb, lt-ltb, le-ltb}
 use lib.Dec.{leb, eqb}
 use lib.IntN.{ℤ}
 use lib.ListN.{take}
+use Rattle.base.specs.Places.{any}
 use Rattle.base.proofs.Counting.{case, clash, both, left, right, either, or-left, or-right, not-true, not-false, eqb-yes, yes-eqb, leb-yes, yes-leb, any-yes, yes-any, same-test}
 use Rattle.rules.specs.Sheet.{Sheet, area, sheetOf}
 use Rattle.rules.specs.Regions.{opaque}
 use Rattle.rules.specs.Grid.{close, eight, four}
 use Rattle.rules.specs.Outline.{ring, hasRing}
-use Rattle.grid.proofs.Places.{wide, row-in, col-in, row-of, col-of, place-in}
+use Rattle.grid.proofs.Places.{row-in, col-in, row-of, col-of, place-in}
 use Rattle.outline.specs.Rows.{back, ahead}
-use Rattle.outline.proofs.Places.{some-row, row-below, row-on, front}
+use Rattle.outline.proofs.Places.{row-on, front}
 
 -- the cell in row v and column u is above, below, left or right of the one in row y and column x
 pub data Beside (y x v u : ℕ) : Type 0 where
@@ -106,6 +107,54 @@ pub ring-found : (s : Sheet) (p : ℕ) → p < s .height * s .width → ring s p
 unfolding hasRing area
 ring-found s p h e = yes-any _ _ p h e
 
+-- ---- a search, row after row
+
+-- the first place alone
+pub any-first : (t : ℕ → Bool) → t 0 ≡ any 1 t
+unfolding any
+any-first t = case (t 0) (λ y. rw y) (λ z. rw z)
+
+-- all places below x, and the last of w
+pub any-last : (t : ℕ → Bool) (w last x : ℕ) → last + 1 ≡ w → x ≤ w → last ≤ x → {a b : Bool} → a ≡ t last → b ≡ any x t → (a || b) ≡ any w t
+any-last t w last x e up down {a} {b} ea eb = same-test (λ y. ⊎-elim here there (either a b y)) (λ y. back (any-yes w t y))
+  where
+    here : a ≡ true → any w t ≡ true
+    here y = yes-any w t last (omega arith) (sym ea ∙ y)
+
+    there : b ≡ true → any w t ≡ true
+    there y = let r = any-yes x t (sym eb ∙ y) in yes-any w t (r .0) (omega (arith, r .1)) (r .2)
+
+    back : (p : ℕ) × (p < w) × (t p ≡ true) → (a || b) ≡ true
+    back r =
+        elim (ℕ-discrete (r .0) last) [
+          | yes i ↦ or-left b (ea ∙ ap t (sym i) ∙ r .2)
+          | no i ↦ or-right a (eb ∙ yes-any x t (r .0) (omega (arith, r .1)) (r .2))
+        ]
+
+-- one row more has none
+pub none-row : (t : ℕ → Bool) (y w : ℕ) → any (y * w) t ≡ false → any w (λ x. t (y * w + x)) ≡ false → any ((y + 1) * w) t ≡ false
+none-row t y w z n = case (any ((y + 1) * w) t) (λ e. absurd (go (any-yes _ t e))) (λ q. q)
+  where
+    go : (p : ℕ) × (p < (y + 1) * w) × (t p ≡ true) → ⊥
+    go r =
+        let p = r .0 in
+        elim (decLt p (y * w)) [
+          | yes l ↦ clash (yes-any (y * w) t p l (r .2)) z
+          | no g ↦ (let e : p ≡ y * w + (p - y * w) = omega arith in
+              clash (yes-any w _ (p - y * w) (omega (arith, r .1, row-on y w)) (subst (λ (i : ℕ). t i ≡ true) e (r .2))) n)
+        ]
+
+-- a row has one
+pub ring-in-row : (s : Sheet) (y : ℕ) → y < s .height → any (s .width) (λ x. ring s (y * s .width + x)) ≡ true → hasRing s ≡ true
+ring-in-row s y l e =
+    let r = any-yes _ _ e in
+    ring-found s (y * s .width + r .0) (place-in (s .height) (s .width) y (r .0) l (r .1)) (r .2)
+
+-- a sheet with no columns
+pub no-columns : (cells : List ℤ) (h w : ℕ) → w ≡ 0 → hasRing (sheetOf cells h w) ≡ false
+unfolding hasRing area sheetOf any
+no-columns cells h w e = rw (e, mul-zero h)
+
 -- ---- the ring of the sheet at the front of a list, as code reads it
 
 -- the place p is in row y and column x
@@ -165,23 +214,6 @@ around {h} {w} {y} {x} {p} k =
       below = ahead-in p w y h (h * w) here (λ l. omega (arith, down-place k, place-in h w (y + 1) x l (k .col)));
       left = back-in p 1 x (h * w) here;
       right = ahead-in p 1 x w (h * w) here (λ l. omega (arith, k .place, place-in h w y (x + 1) (k .row) l));
-    }
-
--- a walk over all places, row after row
-pub record Walk (h w y x p : ℕ) : Type 0 where
-  pub on : p < h * w → Spotted h w y x p
-
-pub walk-start : (h w : ℕ) → Walk h w 0 0 0
-walk-start h w = record { on = λ l. record { row = some-row h w l; col = wide h w 0 l; place = omega (arith, zero-mul w) } }
-
-pub walk-step : {h w y x p : ℕ} → Walk h w y x p → p < h * w → (v u : ℕ) → v * w + u ≡ y * w + x + 1 → u < w → Walk h w v u (p + 1)
-walk-step {h} {w} k l v u e lu =
-    record {
-      on = λ m. record {
-        row = row-below h w v u lu (omega (arith, k .on l .place));
-        col = lu;
-        place = omega (arith, k .on l .place);
-      };
     }
 
 module _ (cells : List ℤ) {h w y x p : ℕ} (k : Spotted h w y x p) where

@@ -12,24 +12,6 @@ ghost use Rattle.rules.specs.Outline.{touches, paddedAt};
 ghost use Rattle.outline.specs.Room.{Held, fromOne, inside};
 ghost use Rattle.outline.specs.Rows.{stretch};
 
-// A cell's row and column.
-pub struct Spot {
-    pub y: usize,
-    pub x: usize,
-}
-
-// The cell after s, in rows of w.
-pub fn after(s: Spot, w: usize) -> Spot
-    requires { ⌜ (s .y ≤ 514) × (s .x < w) × (w ≤ 514) ⌝ }
-    ensures { λ r. ⌜ (r .y * w + r .x ≡ s .y * w + s .x + 1) × (r .x < w) ⌝ }
-{
-    let next = s.x + 1;
-    if next == w {
-        return Spot { y: s.y + 1, x: 0 };
-    }
-    Spot { y: s.y, x: next }
-}
-
 // Whether the cell at p is opaque.
 pub fn solid(cells: &[i32], p: usize) -> bool
     requires { ⌜ p < length (now cells) ⌝ }

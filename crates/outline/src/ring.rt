@@ -1,6 +1,4 @@
 // The ring: every transparent cell with an opaque one above, below, left or right.
-use crate::canvas::Spot;
-use crate::canvas::after;
 use crate::canvas::solid;
 ghost use mathlib.Core.Path.{_≡_};
 ghost use mathlib.Core.Bool.{cond, _||_};
@@ -8,6 +6,7 @@ ghost use Prim.Native.Nat.{_+_, _*_, _<_, _≤_};
 ghost use lib.Dec.{eqb};
 ghost use lib.IntN.{pos};
 ghost use lib.ListN.{length, getD, set};
+ghost use Rattle.base.specs.Places.{any};
 ghost use Rattle.base.specs.Outputs.{filled};
 ghost use Rattle.rules.specs.Sheet.{sheetOf};
 ghost use Rattle.rules.specs.Regions.{at};
@@ -61,18 +60,33 @@ fn ring_at(cells: &[i32], h: usize, w: usize, p: usize, y: usize, x: usize) -> b
     near
 }
 
+// Whether a cell of row y is of the ring. Its ends are apart: between them every cell has one to its left and one to its right.
+fn row_has_ring(cells: &[i32], h: usize, w: usize, y: usize) -> bool
+    requires { ⌜ Held (now cells) h w ⌝ }
+    requires { ⌜ (y < h) × (0 < w) ⌝ }
+    ensures { λ r. ⌜ r ≡ any w (λ x. ring (sheetOf (now (cells .entry)) h w) (y * w + x)) ⌝ }
+{
+    let last = w - 1;
+    let from = y * w;
+    let mut found = ring_at(cells, h, w, from, y, 0);
+    for x in 1..last {
+        found = either(ring_at(cells, h, w, from + x, y, x), found);
+    }
+    either(ring_at(cells, h, w, from + last, y, last), found)
+}
+
 // Whether there is a ring.
 pub fn has_ring(cells: &[i32], h: usize, w: usize) -> bool
     requires { ⌜ Held (now cells) h w ⌝ }
     ensures { λ r. ⌜ r ≡ hasRing (sheetOf (now (cells .entry)) h w) ⌝ }
 {
-    let count = h * w;
-    let mut s = Spot { y: 0, x: 0 };
-    for p in 0..count {
-        if ring_at(cells, h, w, p, s.y, s.x) {
+    if w == 0 {
+        return false;
+    }
+    for row in 0..h {
+        if row_has_ring(cells, h, w, row) {
             return true;
         }
-        s = after(s, w);
     }
     false
 }
