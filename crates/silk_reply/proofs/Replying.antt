@@ -1,16 +1,16 @@
 -- What is printed for a text, by what reading and `run` came to. Assumes nothing.
 use Prim.Native.Nat.{ℕ}
 use mathlib.Core.Path.{_≡_, refl, sym, ap, _∙_}
-use mathlib.Core.Bool.{Bool, true}
+use mathlib.Core.Bool.{true}
 use mathlib.Core.List.{List}
 use lib.IntN.{ℤ}
 use lib.Ieee.{Float}
 use lib.ListN.{length}
-use Rattle.rules.specs.Palette.{Palette, paletteOf}
+use Rattle.rules.specs.Palette.{paletteOf}
 use Rattle.rules.specs.declared.Facts.{Facts}
-use Rattle.rules.specs.declared.PostConfig.{PostConfig}
 use Rattle.rules.specs.declared.Processing.{Processing}
 use Rattle.rules.specs.declared.Processing.the-variants.{Processed, Refused}
+use Rattle.postprocess.proofs.Chain.{Met}
 use Rattle.postprocess.proofs.Refusing.{Call}
 use Rattle.silk_text.specs.Answers.{readInto, lent}
 use Rattle.silk_text.specs.Format.{File, parse}
@@ -18,7 +18,7 @@ use Rattle.silk_print.specs.Print.{resultText, refusalText, resultFits, printed
 use Rattle.silk_text.specs.Reader.{Got}
 use Rattle.silk_text.specs.declared.head.Head.{Head}
 use Rattle.silk_print.specs.declared.Printed.{Printed}
-use Rattle.silk_reply.specs.Reply.{noColours, noCells, workSize, ran, Ran, Front, answerText, sheetText, gotText, silkText, counted}
+use Rattle.silk_reply.specs.Reply.{noColours, noCells, workSize, Ran, Front, answerText, sheetText, gotText, silkText, counted}
 use Rattle.silk_reply.proofs.Fitting.{printed}
 use Rattle.silk_reply.proofs.Putting.{put}
 
@@ -35,15 +35,9 @@ replied text e = ap gotText (sym (into text) ∙ e)
 
 -- ---- by what `run` came to
 
--- with the margin and the work area as the code has them
-pub called : {A : Type 0} (f : List ℤ → ℕ → ℕ → Palette → PostConfig → Bool → Bool → ℤ → ℕ → A) (h : Head) (palette : List Float) (cells : List ℤ) {margin : ℤ} {work : ℕ} →
-    margin ≡ h .margin → work ≡ workSize →
-    f cells (h .height) (h .width) (paletteOf palette (h .colours)) (h .config) (h .saturated) (h .fixed) margin work ≡ ran f h palette cells
-called f h palette cells m k = rw (m, k)
-
--- its arguments
-abbrev call : Head → List Float → List ℤ → Call
-call h palette cells =
+-- the arguments of a call, with some margin and work area
+abbrev call : Head → List Float → List ℤ → ℤ → ℕ → Call
+call h palette cells margin work =
     record {
       cells = cells;
       h = h .height;
@@ -52,9 +46,14 @@ call h palette cells =
       config = h .config;
       saturated = h .saturated;
       fixed = h .fixed;
-      margin = h .margin;
-      work = workSize;
+      margin = margin;
+      work = work;
     }
+
+-- what the code's call promises, with the margin and the work area as it has them
+pub called : (h : Head) (palette : List Float) (cells : List ℤ) {margin : ℤ} {work : ℕ} {answer : Processing} {palette′ : List Float} {cells′ : List ℤ} →
+    margin ≡ h .margin → work ≡ workSize → length cells ≡ 1764 → Met (call h palette cells margin work) answer cells′ palette′ → Ran h palette cells answer palette′ cells′
+called h palette cells m k l t = record { answers = rw (m, k) at (t .0); colours = rw (m, k) at (t .1 .1); sheet = rw (m, k) at (t .1 .0); lent = l }
 
 module _ {h : Head} {palette : List Float} {cells : List ℤ} {answer : Processing} {palette′ : List Float} {cells′ : List ℤ} (c : Ran h palette cells answer palette′ cells′) where
   pub sheet-refused : {n : ℕ} → answer ≡ Refused n → sheetText h palette cells ≡ refusalText n
@@ -72,5 +71,5 @@ module _ {h : Head} {palette : List Float} {cells : List ℤ} {answer : Processi
         new ≡ printedBuffer (resultFits f palette′ cells′ old) (resultText f palette′ cells′) old → r ≡ counted x → Front (sheetText h palette cells) old new r
     unfolding resultFits
     sheet-put {old} m u v w =
-        let fits : resultFits f palette′ cells′ old ≡ true = rw (c .colours, c .sheet, m) (printed (call h palette cells) (c .lent) (sym (c .answers) ∙ e)) in
+        let fits : resultFits f palette′ cells′ old ≡ true = rw (c .colours, c .sheet, m) (printed (call h palette cells (h .margin) workSize) (c .lent) (sym (c .answers) ∙ e)) in
         rw sheet-result (put _ (resultText f palette′ cells′) fits u v w)

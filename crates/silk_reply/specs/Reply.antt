@@ -1,5 +1,5 @@
 -- What the program `silk` prints for the bytes of its standard input. Definitions only. Assumes nothing.
-use Prim.Native.Nat.{ℕ}
+use Prim.Native.Nat.{ℕ, _*_}
 use mathlib.Core.Bool.{Bool}
 use mathlib.Core.List.{List}
 use mathlib.Core.Path.{_≡_}
@@ -22,17 +22,17 @@ use Rattle.silk_print.specs.declared.Printed.{Printed}
 
 -- ---- the lists that the program lends
 
--- 256 entries
+-- a palette of 256 entries
 unfoldable pub noColours : List Float
-noColours = replicate 768 (decimal 0 0)
+noColours = replicate (3 * 256) (decimal 0 0)
 
--- 42 by 42 cells: 40 by 40, padded
+-- a sheet of 40 by 40 cells, with room for its padding
 unfoldable pub noCells : List ℤ
-noCells = replicate 1764 (pos 0)
+noCells = replicate (42 * 42) (pos 0)
 
--- the length of the work area: 8 for each of those cells
+-- the length of the work area
 abbrev pub workSize : ℕ
-workSize = 14112
+workSize = 8 * (42 * 42)
 
 -- ---- what is printed
 

@@ -1,11 +1,9 @@
 -- `run_sheet` meets its contract. Assumes nothing.
 use borrow.Author.Needs.{needs}
 use Prim.Native.Nat.{ℕ}
-use mathlib.Core.Path.{_∙_}
 use native.Mathlib.Omega.{arith}
 use denote.Ref.{now}
 use lib.ListN.{length-replicate}
-use Rattle.rules.specs.Entries.{runAnswer, runCells, runPalette}
 use Rattle.silk_reply.proofs.Replying.{called}
 use Rattle.silk_reply.proofs.run_sheet.Statement.{statement}
 use Rattle.silk_reply.proofs.run_sheet.Tie as tie
@@ -20,12 +18,7 @@ returns : tie.Need-returns
 returns c =
     let after = c .before in
     let args = after .before .before .before .before .before .before .args in
-    record {
-      answers = after .run .ensures .0 ∙ called runAnswer (args .h) (now (args .palette)) (now (args .cells)) (search needs) (length-replicate {A = ℕ} _ 0);
-      colours = after .run .ensures .1 .1 ∙ called runPalette (args .h) (now (args .palette)) (now (args .cells)) (search needs) (length-replicate {A = ℕ} _ 0);
-      sheet = after .run .ensures .1 .0 ∙ called runCells (args .h) (now (args .palette)) (now (args .cells)) (search needs) (length-replicate {A = ℕ} _ 0);
-      lent = omega arith;
-    }
+    called (args .h) (now (args .palette)) (now (args .cells)) (search needs) (length-replicate {A = ℕ} _ 0) (omega arith) (after .run .ensures)
 
 pub run-sheet-spec : {M : Type 1} → statement M
 run-sheet-spec = tie.close (tie.spec slice-aggregate-run run-requires returns)
