@@ -21,7 +21,7 @@ use Rattle.rules.proofs.Roots.{link-same, link-adj, to-link}
 use Rattle.grid.specs.declared.Tally.{Tally}
 use Rattle.grid.specs.Steps.{rowsOf, colsOf, hop, hood}
 use Rattle.grid.specs.Planes.{plane, paintOf, cellOf, cellsOf, groupAt, endOf, Labelled}
-use Rattle.grid.specs.Filling.{Sized, blanks, joined, Right, Ordered, Ended, Filled, Shut, Waits, Flood, Passed, Kept, Since, Visited, Cleared}
+use Rattle.grid.specs.Filling.{Sized, blanks, joined, Right, Ordered, Ended, Filled, Shut, Waits, Flood, Tinted, Passed, Kept, Since, Visited, wordOf, Cleared}
 use Rattle.grid.proofs.Places.{hop-in, hood-sound, hood-complete, some-inj}
 use Rattle.grid.proofs.Planes.{plane-same, plane-else, plane-other, cells-at, cells-paint, opaque-paint}
 use Rattle.grid.proofs.Filling.{Put, room-left, put-since, at-old, at-new, sheet-kept, since-refl, since-trans, clear-label, link-label, first-next, not-first, first-number, root-is-first, clear-not-first, labelled-opaque, next-root, old-not-first, symm, len, put-here, filled-put}
@@ -33,15 +33,17 @@ pub record Turn (h w steps : ℕ) (work₀ : List ℕ) (t₀ : Tally) (head p k 
   pub flood : Flood h w steps work head t
   pub is : plane (h * w) 2 work head ≡ p
   pub done : (j q : ℕ) → j < k → hop h w p j ≡ some q → plane (h * w) 0 work q ≡ plane (h * w) 0 work p → plane (h * w) 1 work q ≡ 0 → ⊥
+  pub alike : (i : ℕ) → head ≤ i → i < t .taken → plane (h * w) 0 work (plane (h * w) 2 work i) ≡ plane (h * w) 0 work p
   pub since : Since (h * w) work₀ work
   pub regions : t .regions ≡ t₀ .regions
   pub taken : t₀ .taken ≤ t .taken
 
-pub turn-start : {h w steps : ℕ} {work : List ℕ} {head : ℕ} {t : Tally} → Flood h w steps work head t → Turn h w steps work t head (plane (h * w) 2 work head) 0 work t
-turn-start {work = work} f = record {
+pub turn-start : {h w steps : ℕ} {work : List ℕ} {head paint : ℕ} {t : Tally} → Flood h w steps work head t → Tinted (h * w) work head (t .taken) paint → head < t .taken → Turn h w steps work t head (plane (h * w) 2 work head) 0 work t
+turn-start {work = work} {head = head} f tint lh = record {
   flood = f;
   is = refl;
   done = λ j q l. absurd (not-suc-le-zero l);
+  alike = λ i lo hi. tint .alike i lo hi ∙ sym (tint .alike head (le-refl head) lh);
   since = since-refl work;
   regions = refl;
   taken = le-refl _;
@@ -56,13 +58,17 @@ module _ {h w steps : ℕ} {work₀ : List ℕ} {t₀ : Tally} {head p k : ℕ} 
   unfolding groupAt
   turn-mine = ap (plane (h * w) 1 work) (sym (u .is)) ∙ u .flood .wait head (le-refl head) (omega (arith, u .taken))
 
+  turn-opaque : opaque (cellsOf (h * w) work) p ≡ true
+  turn-opaque =
+      let f = u .flood .filled in
+      labelled-opaque (h * w) (hood steps w) (cellsOf (h * w) work) (len f) (symm f) (f .labels) p turn-in (λ z. omega (arith, turn-mine, u .flood .some))
+
   module _ (lk : k < steps) where
     turn-link : (q : ℕ) → hop h w p k ≡ some q → plane (h * w) 0 work q ≡ plane (h * w) 0 work p → link (hood steps w) (cellsOf (h * w) work) p q ≡ true
     turn-link q e same =
         let f = u .flood .filled in
         let lq = hop-in h w p k q e in
-        to-link (hood steps w) (cellsOf (h * w) work) p q (hood-sound steps (f .sized .count) h w p k q lk e)
-        (labelled-opaque (h * w) (hood steps w) (cellsOf (h * w) work) (len f) (symm f) (f .labels) p turn-in (λ z. omega (arith, turn-mine, u .flood .some)))
+        to-link (hood steps w) (cellsOf (h * w) work) p q (hood-sound steps (f .sized .count) h w p k q lk e) turn-opaque
         (cells-at (h * w) work p turn-in ∙ ap cellOf (sym same) ∙ sym (cells-at (h * w) work q lq))
 
     turn-kept : ((q : ℕ) → hop h w p k ≡ some q → plane (h * w) 0 work q ≡ plane (h * w) 0 work p → plane (h * w) 1 work q ≡ 0 → ⊥) → Turn h w steps work₀ t₀ head p (k + 1) work t
@@ -70,6 +76,7 @@ module _ {h w steps : ℕ} {work₀ : List ℕ} {t₀ : Tally} {head p k : ℕ} 
       flood = u .flood;
       is = u .is;
       done = λ j q l e. elim (decLt j k) [ yes m ↦ u .done j q m e | no m ↦ (let z : j ≡ k = omega arith in not q (subst (λ (x : ℕ). hop h w p x ≡ some q) z e)) ];
+      alike = u .alike;
       since = u .since;
       regions = u .regions;
       taken = u .taken;
@@ -137,11 +144,21 @@ module _ {h w steps : ℕ} {work₀ : List ℕ} {t₀ : Tally} {head p k : ℕ} 
             ]
           ]
 
+      took-alike : (i : ℕ) → head ≤ i → i < t .taken + 1 → plane (h * w) 0 new (plane (h * w) 2 new i) ≡ plane (h * w) 0 new p
+      took-alike i lo hi =
+          elim (decLt i (t .taken)) [
+            | yes l ↦ ap (plane (h * w) 0 new) (put .older i (omega (arith, fits-in)) (λ z. omega arith)) ∙ paint-kept (plane (h * w) 2 work i) (f .order .placed i l .0)
+                ∙ u .alike i lo l ∙ sym (paint-kept p turn-in)
+            | no m ↦ (let z : i ≡ t .taken = omega arith in
+                ap (λ (x : ℕ). plane (h * w) 0 new (plane (h * w) 2 new x)) z ∙ ap (plane (h * w) 0 new) (put .last) ∙ paint-kept q lq ∙ same ∙ sym (paint-kept p turn-in))
+          ]
+
       turn-took : Turn h w steps work₀ t₀ head p (k + 1) new (record { regions = m; taken = t .taken + 1 })
       turn-took = record {
         flood = took-flood;
         is = put .older head (omega (arith, u .taken, fits-in)) (λ z. omega (arith, u .taken)) ∙ u .is;
         done = took-done;
+        alike = took-alike;
         since = since-trans (u .since) grown;
         regions = u .regions;
         taken = omega (arith, u .taken);
@@ -382,6 +399,14 @@ module _ {h w steps : ℕ} {work : List ℕ} {t : Tally} {s : ℕ} (f : Filled h
           some = omega arith;
         }
 
+    -- s alone waits
+    pub begin-tint : Tinted (h * w) begun (t .taken) (t .taken + 1) (plane (h * w) 0 work s)
+    begin-tint = record {
+      alike = λ i lo hi.
+          let e : i ≡ t .taken = omega arith in
+          ap (λ (x : ℕ). plane (h * w) 0 begun (plane (h * w) 2 begun x)) e ∙ ap (plane (h * w) 0 begun) (put-begun .last) ∙ put-begun .others 0 s (λ z. omega arith) (λ z. omega arith) ls;
+    }
+
     -- once it is whole, and its end is stored
     module _ {new : List ℕ} {r : Tally} (g : Filled h w steps new (r .regions - 1) r Shut) (num : r .regions ≡ t .regions + 1) (since : Since (h * w) begun new) where
       begun-filled : Filled h w steps new (t .regions) r Shut
@@ -475,23 +500,20 @@ all-labelled {h = h} {w = w} {steps = steps} {work₀ = work₀} {work = work} {
 -- ---- the turns of `clear`
 
 pub clear-start : (n : ℕ) (work : List ℕ) → Cleared n 0 work work
-clear-start n work = record { size = refl; blank = λ p l. absurd (not-suc-le-zero l); others = λ j p ne lp. refl }
+clear-start n work = record { size = refl; word = λ p l. absurd (not-suc-le-zero l); others = λ j p ne lp. refl }
 
-pub clear-more : {n k : ℕ} {old work : List ℕ} → Cleared n k old work → 8 * n ≤ length old → k < n → Cleared n (k + 1) old (set work (n + k) 0)
-clear-more {n = n} {k = k} {work = work} c room l =
+pub clear-more : {n k : ℕ} {old work : List ℕ} {v : ℕ} → Cleared n k old work → 8 * n ≤ length old → k < n → v ≡ wordOf (plane n 0 old k) → Cleared n (k + 1) old (set work (n + k) v)
+clear-more {n = n} {k = k} {old = old} {work = work} {v = v} c room l is =
     let e : n + k ≡ 1 * n + k = omega arith in
     record {
       size = simp length-set (c .size);
-      blank = λ p lp.
+      word = λ p lp.
           elim (ℕ-discrete p k) [
-            | yes y ↦ ap (plane n 1 (set work (n + k) 0)) y ∙ plane-same n 1 k (n + k) work 0 e (omega (arith, c .size))
-            | no ne ↦ plane-else n 1 k (n + k) work 0 e p ne ∙ c .blank p (omega arith)
+            | yes y ↦ ap (plane n 1 (set work (n + k) v)) y ∙ plane-same n 1 k (n + k) work v e (omega (arith, c .size)) ∙ is ∙ ap (λ (x : ℕ). wordOf (plane n 0 old x)) (sym y)
+            | no ne ↦ plane-else n 1 k (n + k) work v e p ne ∙ c .word p (omega arith)
           ];
-      others = λ j p ne lp. plane-other n 1 k (n + k) work 0 e j p (λ z. ne (sym z)) l lp ∙ c .others j p ne lp;
+      others = λ j p ne lp. plane-other n 1 k (n + k) work v e j p (λ z. ne (sym z)) l lp ∙ c .others j p ne lp;
     }
 
 pub clear-all : {n k : ℕ} {old work : List ℕ} → Cleared n k old work → n ≤ k → Cleared n n old work
-clear-all c l = record { size = c .size; blank = λ p lp. c .blank p (omega arith); others = c .others }
-
-pub cleared-kept : {n : ℕ} {old work : List ℕ} → Cleared n n old work → Kept n old work
-cleared-kept c = record { size = c .size; others = λ j p s lp. c .others j p (λ z. ⊎-elim (λ a. omega arith) (λ a. omega arith) s) lp }
+clear-all c l = record { size = c .size; word = λ p lp. c .word p (omega arith); others = c .others }

@@ -96,6 +96,11 @@ pub paint-fits : (z : ℤ) → SFits w32 z → ltZ z (pos 0) ≡ false → natAb
 paint-fits (pos i) f t = f .sfits
 paint-fits (negsuc i) f t = absurd (true≢false t)
 
+pub paint-most : (z : ℤ) → SFits w32 z → paintOf z ≤ 2147483648
+unfolding paintOf
+paint-most (pos i) f = let l : i < 2147483648 = f .sfits in omega arith
+paint-most (negsuc i) f = omega arith
+
 pub repaint-none : (x : ℕ) (z : ℤ) → x ≡ 0 → z ≡ repaint x z
 unfolding repaint
 repaint-none x z e = rw e

@@ -3,7 +3,7 @@ use Prim.Native.Nat.{ℕ, zero, suc, _+_, _-_, _*_, _/_, _%_, _≤_, _<_}
 use mathlib.Core.Path.{_≡_, refl, sym, ap, ap₂, fun-ext, _∙_, subst}
 use mathlib.Core.Bool.{true, _&&_, cond}
 use mathlib.Core.List.{List}
-use native.Mathlib.Nat.{mul-le-mul, div-add-mod', suc-mul}
+use native.Mathlib.Nat.{not-suc-le-zero, mul-le-mul, div-add-mod', suc-mul}
 use native.Mathlib.Numerals.{add-one}
 use native.Mathlib.Decide.{ℕ-discrete, decLt}
 use native.Mathlib.Omega.{arith}
@@ -19,7 +19,8 @@ use Rattle.base.proofs.Fills.{filled-more, filled-at, filled-past, filled-is}
 use Rattle.rules.specs.Regions.{at}
 use Rattle.rules.proofs.Reading.{read-at}
 use Rattle.grid.specs.Planes.{plane, paintOf, Painted}
-use Rattle.grid.specs.Tiles.{spotOf, Tile, paintAt, repaint, inTile, placeIn, storedTo, stored}
+use Rattle.grid.specs.Tiles.{spotOf, Tile, paintAt, Paints, repaint, inTile, placeIn, storedTo, stored}
+use Rattle.grid.proofs.Planes.{plane-read}
 use Rattle.grid.proofs.Places.{row-in, col-in, row-of, col-of, place-in}
 
 -- ---- where places lie
@@ -240,6 +241,26 @@ store-next l new work start stride h w y x v t ly lx e is =
     ap (λ (i : ℕ). getD new i (pos 0)) (sym spot) ∙ ap (λ (c : List ℤ). getD c (spotOf start stride w k) (pos 0)) e ∙ store-old l work start stride h w (t .within) k lk inside in
     ap (λ (i : ℕ). set new i v) (sym spot) ∙ ap (λ (c : List ℤ). set c (spotOf start stride w k) v) e
     ∙ store-more l work start stride h w (t .within) k lk inside (y * w + (x + 1)) v (omega arith) (is ∙ ap (repaint (plane (h * w) 0 work k)) old)
+
+-- ---- paints
+
+pub paints-none : (work : List ℕ) → Paints 0 work
+paints-none work = record { most = λ p l. absurd (not-suc-le-zero l) }
+
+pub paints-more : {k v : ℕ} {work : List ℕ} → Paints k work → k < length work → v ≤ 2147483648 → Paints (k + 1) (set work k v)
+paints-more {k = k} {v = v} {work = work} m l most = record {
+  most = λ p lp.
+      elim (ℕ-discrete p k) [
+        | yes y ↦ omega (arith, ap (λ (i : ℕ). getD (set work k v) i 0) y, getD-set-same work k v 0 l)
+        | no ne ↦ omega (arith, getD-set-other work k p v 0 ne, m .most p (omega arith))
+      ];
+}
+
+pub paints-to : {k m : ℕ} {work : List ℕ} → k ≡ m → Paints k work → Paints m work
+paints-to {work = work} e = subst (λ (x : ℕ). Paints x work) e
+
+pub paints-plane : {n : ℕ} {work : List ℕ} → Paints n work → (p : ℕ) → p < n → plane n 0 work p ≤ 2147483648
+paints-plane {n = n} {work = work} m p l = omega (arith, plane-read n 0 p p work (omega arith), m .most p l)
 
 -- ---- the whole sheet
 

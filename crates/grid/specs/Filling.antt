@@ -1,14 +1,14 @@
 -- What holds while regions are labelled: the contracts of the functions inside `label_planes`. Definitions only. Assumes nothing.
-use Prim.Native.Nat.{ℕ, _+_, _-_, _*_, _≤_, _<_}
+use Prim.Native.Nat.{ℕ, zero, suc, _+_, _-_, _*_, _≤_, _<_}
 use mathlib.Core.Path.{_≡_}
 use mathlib.Core.Logic.{_⊎_, _↔_}
-use mathlib.Core.Bool.{Bool, true}
+use mathlib.Core.Bool.{Bool, true, _&&_, cond}
 use mathlib.Core.List.{List}
 use mathlib.Core.Option.{Option, some}
-use lib.Dec.{eqb}
+use lib.Dec.{eqb, leb, ltb}
 use lib.IntN.{ℤ}
-use lib.ListN.{length, set}
-use Rattle.base.specs.Places.{count}
+use lib.ListN.{length, set, getD}
+use Rattle.base.specs.Places.{table, count}
 use Rattle.rules.specs.Regions.{opaque, link, roots, root, first}
 use Rattle.rules.specs.Masks.{labelAt}
 use Rattle.grid.specs.declared.Tally.{Tally}
@@ -21,6 +21,19 @@ pub record Sized (h w steps : ℕ) (work : List ℕ) : Type 0 where
   pub cols : w ≤ 514
   pub count : (steps ≡ 4) ⊎ (steps ≡ 8)
   pub planes : 8 * (h * w) ≤ length work
+
+-- a word of the work area as labelling sees it: in plane 1 a word beyond every label is none
+unfoldable pub shown : ℕ → ℕ → ℕ → ℕ
+shown n i v = cond (ltb 264196 v && (leb n i && ltb i (2 * n))) 0 v
+
+-- the work area as labelling sees it
+unfoldable pub seen : ℕ → List ℕ → List ℕ
+seen n work = table (length work) (λ i. shown n i (getD work i 0))
+
+-- plane 1 holds labels, and for an opaque place without one its paint, beyond every label
+pub record Coded (n : ℕ) (work : List ℕ) : Type 0 where
+  pub small : (p : ℕ) → p < n → plane n 0 work p ≤ 2147483648
+  pub word : (p : ℕ) → p < n → ((plane n 1 work p ≤ 264196) × (plane n 1 work p ≡ 0 → plane n 0 work p ≡ 0)) ⊎ ((plane n 1 work p ≡ plane n 0 work p + 264196) × (0 < plane n 0 work p))
 
 -- how many places have no label
 unfoldable pub blanks : ℕ → List ℕ → ℕ
@@ -76,6 +89,10 @@ pub record Flood (h w steps : ℕ) (work : List ℕ) (head : ℕ) (t : Tally) : 
   pub wait : (i : ℕ) → head ≤ i → i < t .taken → groupAt (h * w) work i ≡ t .regions
   pub some : 1 ≤ t .regions
 
+-- all that waits has one paint
+pub record Tinted (n : ℕ) (work : List ℕ) (head taken paint : ℕ) : Type 0 where
+  pub alike : (i : ℕ) → head ≤ i → i < taken → plane n 0 work (plane n 2 work i) ≡ paint
+
 -- every opaque place before s has a label, and the regions are those whose first cell comes before s
 pub record Passed (h w steps : ℕ) (work : List ℕ) (t : Tally) (s : ℕ) : Type 0 where
   pub labelled : (p : ℕ) → p < s → opaque (cellsOf (h * w) work) p ≡ true → plane (h * w) 1 work p ≡ 0 → ⊥
@@ -97,8 +114,13 @@ pub data Visited (n : ℕ) (found : Option ℕ) (paint : ℕ) (work : List ℕ) 
   took : (q : ℕ) → found ≡ some q → plane n 0 work q ≡ paint → plane n 1 work q ≡ 0 →
       Visited n found paint work t (joined n q (t .regions) (t .taken) work) (record { regions = t .regions; taken = t .taken + 1 })
 
+-- the word of a place without a label: 0 for no paint, and otherwise its paint beyond every label
+unfoldable pub wordOf : ℕ → ℕ
+wordOf zero = 0
+wordOf (suc i) = suc i + 264196
+
 -- the first k places have no label, and all else is as it was
 pub record Cleared (n k : ℕ) (old new : List ℕ) : Type 0 where
   pub size : length new ≡ length old
-  pub blank : (p : ℕ) → p < k → plane n 1 new p ≡ 0
+  pub word : (p : ℕ) → p < k → plane n 1 new p ≡ wordOf (plane n 0 old p)
   pub others : (j p : ℕ) → (j ≡ 1 → ⊥) → p < n → plane n j new p ≡ plane n j old p

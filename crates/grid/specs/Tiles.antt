@@ -4,7 +4,7 @@ use mathlib.Core.Bool.{Bool, _&&_, cond}
 use mathlib.Core.List.{List}
 use lib.Dec.{leb, ltb}
 use lib.IntN.{ℤ, pos}
-use lib.ListN.{length}
+use lib.ListN.{length, getD}
 use Rattle.base.specs.Places.{table}
 use Rattle.rules.specs.Regions.{at}
 use Rattle.grid.specs.Planes.{plane, paintOf}
@@ -28,6 +28,10 @@ pub record Tile (cells : List ℤ) (work : List ℕ) (start stride h w : ℕ) : 
 -- the paint of the tile's place p
 unfoldable pub paintAt : List ℤ → ℕ → ℕ → ℕ → ℕ → ℕ
 paintAt cells start stride w p = paintOf (at cells (spotOf start stride w p))
+
+-- the first k numbers are paints of cells of 32 bits
+pub record Paints (k : ℕ) (work : List ℕ) : Type 0 where
+  pub most : (p : ℕ) → p < k → getD work p 0 ≤ 2147483648
 
 -- ---- storing
 

@@ -5,7 +5,7 @@ ghost use Prim.Native.Nat.{ℕ, _+_, _*_, _<_, _≤_};
 ghost use lib.IntN.{ℤ};
 ghost use Rattle.base.specs.Outputs.{filled};
 ghost use Rattle.grid.specs.Planes.{plane, paintOf};
-ghost use Rattle.grid.specs.Tiles.{Tile, paintAt, repaint, storedTo, stored};
+ghost use Rattle.grid.specs.Tiles.{Tile, paintAt, Paints, repaint, storedTo, stored};
 
 // 0 for a transparent cell, index + 1 otherwise.
 fn paint(cell: i32) -> u32
@@ -27,6 +27,7 @@ fn load_row(
     requires { ⌜ Tile (now cells) (now work) start stride h w ⌝ }
     requires { ⌜ y < h ⌝ }
     ensures { λ _. ⌜ ((l : List ℕ) → now (work .entry) ≡ filled (y * w) (paintAt (now (cells .entry)) start stride w) l → now (work .exit) ≡ filled ((y + 1) * w) (paintAt (now (cells .entry)) start stride w) l) ⌝ }
+    ensures { λ _. ⌜ (Paints (y * w) (now (work .entry)) → Paints ((y + 1) * w) (now (work .exit))) ⌝ }
 {
     let from = start + y * stride;
     let to = y * w;
@@ -41,6 +42,7 @@ fn load_row(
 pub fn load(cells: &[i32], work: &mut [u32], start: usize, stride: usize, h: usize, w: usize)
     requires { ⌜ Tile (now cells) (now work) start stride h w ⌝ }
     ensures { λ _. ⌜ now (work .exit) ≡ filled (h * w) (paintAt (now (cells .entry)) start stride w) (now (work .entry)) ⌝ }
+    ensures { λ _. ⌜ Paints (h * w) (now (work .exit)) ⌝ }
 {
     for y in 0..h {
         load_row(cells, work, start, stride, h, w, y);

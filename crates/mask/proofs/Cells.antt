@@ -1,15 +1,17 @@
 -- A mask in plane 0 of the work area is the sheet of its set places. Assumes nothing.
-use Prim.Native.Nat.{ℕ, _≤_}
+use Prim.Native.Nat.{ℕ, _≤_, _<_}
 use mathlib.Core.Path.{_≡_, refl, sym, ap, _∙_}
 use mathlib.Core.Bool.{Bool, true, false, cond}
 use mathlib.Core.List.{List}
+use native.Mathlib.Omega.{arith}
 use lib.IntN.{ℤ, pos, negsuc}
 use lib.ListN.{length, getD, take, length-map, List·getD-map}
 use lib.Seq.{getD-take, length-take-le}
 use Rattle.base.specs.Outputs.{filled}
+use Rattle.base.proofs.Counting.{case}
 use Rattle.rules.specs.Regions.{at}
 use Rattle.rules.specs.Masks.{isSet, maskCells}
-use Rattle.grid.specs.Planes.{paintOf, Painted}
+use Rattle.grid.specs.Planes.{plane, paintOf, Painted}
 use Rattle.grid.proofs.Tiles.{filled-plane}
 use Rattle.mask.specs.Lines.{bitOf}
 
@@ -37,3 +39,12 @@ mask-painted mask work n h = record {
       filled-plane n (λ q. bitOf (getD mask q 0)) work p l ∙ paint-bit (getD mask p 0)
       ∙ ap (λ (b : ℕ). paintOf (cellOf b)) (sym (getD-take n mask p 0 l)) ∙ ap paintOf (sym (mask-at (take n mask) p));
 }
+
+bit-small : (b : ℕ) → bitOf b ≤ 2147483648
+unfolding bitOf
+bit-small b = case (isSet b) (λ y. rw y (omega arith)) (λ z. rw z (omega arith))
+
+-- the paints of a mask are small
+pub bits-small : (mask work new : List ℕ) (n : ℕ) → new ≡ filled n (λ p. bitOf (getD mask p 0)) work → (p : ℕ) → p < n → plane n 0 new p ≤ 2147483648
+bits-small mask work new n e p l =
+    omega (arith, ap (λ (x : List ℕ). plane n 0 x p) e, filled-plane n (λ q. bitOf (getD mask q 0)) work p l, bit-small (getD mask p 0))

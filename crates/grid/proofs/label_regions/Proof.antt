@@ -10,7 +10,7 @@ use lib.ListN.{length, take}
 use Rattle.rules.specs.Masks.{gridRefusal, regionsRefusal, regionsAnswer, regionsLabels}
 use Rattle.grid.specs.Planes.{Painted}
 use Rattle.grid.proofs.Places.{hood-eight}
-use Rattle.grid.proofs.Tiles.{whole-tile, load-whole}
+use Rattle.grid.proofs.Tiles.{whole-tile, load-whole, paints-plane}
 use Rattle.grid.proofs.Answers.{filling-done, filling-refused, Sizes, sizes-clear, refused, granted, painted-regions, painted-labels}
 use Rattle.grid.proofs.label_regions.Statement.{statement}
 use Rattle.grid.proofs.label_regions.Tie as tie
@@ -44,8 +44,8 @@ label-into-requires : tie.Need-label-into-requires
 label-into-requires c κs =
     let l = c .before .before .before .before in
     let f = fit (l .before .before) in (
-      record { rows = omega (arith, f .rows); cols = omega (arith, f .cols); count = inr refl; planes = omega (arith, f .planes, l .load .kept .1 .0) },
-      f .fills,
+      (record { rows = omega (arith, f .rows); cols = omega (arith, f .cols); count = inr refl; planes = omega (arith, f .planes, l .load .kept .1 .0) }, f .fills),
+      paints-plane (l .load .ensures .1),
     )
 
 same-length : tie.Need-same-length
@@ -58,7 +58,7 @@ same-length-2 c = search needs
 painted : (c : tie.After-load) → let a = start (c .before .before) .args in Painted (take (a .h * a .w) (a .cells .now)) (a .h * a .w) (c .load .last .1 .0)
 painted c =
     let a = start (c .before .before) .args in
-    subst (Painted (take (a .h * a .w) (a .cells .now)) (a .h * a .w)) (sym (c .load .ensures)) (load-whole (a .cells .now) (a .work .now) (a .h) (a .w) (fit (c .before .before) .reads))
+    subst (Painted (take (a .h * a .w) (a .cells .now)) (a .h * a .w)) (sym (c .load .ensures .0)) (load-whole (a .cells .now) (a .work .now) (a .h) (a .w) (fit (c .before .before) .reads))
 
 returns-2 : tie.Need-returns-2
 unfolding regionsRefusal regionsAnswer regionsLabels

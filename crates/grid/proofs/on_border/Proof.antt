@@ -4,7 +4,6 @@ use mathlib.Core.Bool.{true, false, true≢false}
 use Prim.Native.Nat.{_+_, _<_, _/_, _%_}
 use native.Mathlib.Omega.{arith}
 use borrow.Author.Tests.{eqb-false}
-use Rattle.grid.specs.Steps.{Inner}
 use Rattle.grid.proofs.Places.{wide, row-in, col-in}
 use Rattle.grid.proofs.on_border.Statement.{statement}
 use Rattle.grid.proofs.on_border.Tie as tie

@@ -1,6 +1,4 @@
 -- `grid::past`: one more than a single step. Assumes nothing.
-use mathlib.Core.Path.{_≡_, refl, sym}
-use lib.IntN.{pos, _+ℤ_}
 use mir.Facts.{toZ-ofZ, fits-natAbs}
 use Rattle.grid.proofs.Signs.{single-fits, single-on, single-past}
 use Rattle.grid.proofs.past.Statement.{statement}

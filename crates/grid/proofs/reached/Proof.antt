@@ -1,13 +1,12 @@
 -- `grid::reached` is `stepTo`, on the border and within. Assumes nothing.
-use mathlib.Core.Path.{_≡_, sym, ap}
-use mathlib.Core.Bool.{false}
-use Prim.Native.Nat.{_+_, _*_, _<_, _≤_, _/_, _%_}
+use mathlib.Core.Path.{sym, ap}
+use Prim.Native.Nat.{_*_, _<_, _≤_}
 use native.Mathlib.Nat.{mul-le-mul}
 use native.Mathlib.Omega.{arith}
 use borrow.Author.Needs.{needs}
 use mir.Facts.{toZ-ofZ}
 use Rattle.grid.specs.Steps.{Inner, stepOf}
-use Rattle.grid.proofs.Places.{wide, row-in, col-in, area, Near, single-near, Past, past-is, inner-room, inner-step}
+use Rattle.grid.proofs.Places.{wide, row-in, col-in, area, single-near, Past, past-is, inner-room, inner-step}
 use Rattle.grid.proofs.reached.Statement.{statement}
 use Rattle.grid.proofs.reached.Tie as tie
 

@@ -42,7 +42,7 @@ start c = c .before .before .before .before .before .before
 painted : (c : tie.After-load) → let a = start c .args in Painted (take (a .h * a .w) (a .cells .now)) (a .h * a .w) (c .load .last .1 .0)
 painted c =
     let a = start c .args in
-    subst (Painted (take (a .h * a .w) (a .cells .now)) (a .h * a .w)) (sym (c .load .ensures)) (load-whole (a .cells .now) (a .work .now) (a .h) (a .w) (start c .pre .reads))
+    subst (Painted (take (a .h * a .w) (a .cells .now)) (a .h * a .w)) (sym (c .load .ensures .0)) (load-whole (a .cells .now) (a .work .now) (a .h) (a .w) (start c .pre .reads))
 
 clean-planes-requires : tie.Need-clean-planes-requires
 clean-planes-requires c κs =

@@ -1,6 +1,7 @@
 -- `orphans::pass`: label, decide, paint. Assumes nothing.
 use Prim.Native.Nat.{_*_}
 use mathlib.Core.Path.{sym, _∙_}
+use native.Mathlib.Omega.{arith}
 use borrow.Author.Tests.{not-true}
 use Rattle.orphans.proofs.Painting.{coloured-idle}
 use Rattle.orphans.proofs.Passes.{Sought, sought, counted, paint-ready, passed}
@@ -12,7 +13,10 @@ mul-n : tie.Need-mul-n
 mul-n c = search needs
 
 label-planes-requires : tie.Need-label-planes-requires
-label-planes-requires c κs = search needs
+label-planes-requires c κs =
+    let p = c .before .before .before .pre in
+    let i = p .1 .0 in
+    (p .0, λ q l. omega (arith, i .few, i .below q l))
 
 cast-count : tie.Need-cast-count
 cast-count c = search needs

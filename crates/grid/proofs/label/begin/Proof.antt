@@ -1,13 +1,16 @@
 -- `grid::label::begin`: the place s, and its region where it begins one. Assumes nothing.
-use mathlib.Core.Path.{_≡_, sym, _∙_}
-use Prim.Native.Nat.{ℕ, _+_, _*_, _≤_, _<_}
+use mathlib.Core.Path.{_≡_, sym, ap, _∙_, subst}
+use mathlib.Core.List.{List}
+use Prim.Native.Nat.{ℕ, _+_, _-_, _*_, _≤_, _<_}
 use native.Mathlib.Omega.{arith}
-use lib.ListN.{length, getD, length-set}
+use lib.ListN.{length, getD, set, length-set}
 use Rattle.grid.specs.Planes.{plane}
+use Rattle.grid.specs.Filling.{seen, joined, Filled, Shut, Flood, Tinted, Passed, Since}
 use Rattle.grid.proofs.Places.{area}
 use Rattle.grid.proofs.Planes.{plane-read}
 use Rattle.grid.proofs.Filling.{since-refl}
-use Rattle.grid.proofs.Flooding.{pass-clear, pass-old, begin-fits, begin-flood, closed-size, closed-filled, closed-passed, closed-since}
+use Rattle.grid.proofs.Flooding.{begin-fits, begin-flood, begin-tint, closed-size, closed-filled, closed-passed, closed-since}
+use Rattle.grid.proofs.Seen.{seen-size, seen-joined, seen-end, seen-length, coded-joined, coded-end, Fresh, code-fresh, pass-low}
 use Rattle.grid.proofs.label.begin.Statement.{statement}
 use Rattle.grid.proofs.label.begin.Tie as tie
 
@@ -23,55 +26,51 @@ pub record Bounds (c : tie.Start) : Type 0 where
 
 bounds : (c : tie.Start) → Bounds c
 bounds c =
-    let f = c .pre .0 in
-    record { on = c .pre .1 .1; few = area _ _ (f .sized .rows) (f .sized .cols); room = f .sized .planes; under = f .under }
+    let f = c .pre .0 .0 in
+    record { on = c .pre .1 .1; few = area _ _ (f .sized .rows) (f .sized .cols); room = omega (arith, f .sized .planes, seen-size (n c) (c .args .work .now)); under = f .under }
 
--- paint and label of s, as they are read
-paint-at : (c : tie.Start) → getD (c .args .work .now) (c .args .s) 0 ≡ plane (n c) 0 (c .args .work .now) (c .args .s)
-paint-at c = plane-read (n c) 0 (c .args .s) (c .args .s) (c .args .work .now) (omega arith)
+mul-n : tie.Need-mul-n
+mul-n c = omega (arith, bounds (c .before))
 
-label-at : (c : tie.Start) → getD (c .args .work .now) (n c + c .args .s) 0 ≡ plane (n c) 1 (c .args .work .now) (c .args .s)
-label-at c = plane-read (n c) 1 (c .args .s) (n c + c .args .s) (c .args .work .now) (omega arith)
+add-code : tie.Need-add-code
+add-code c = omega (arith, bounds (c .before))
 
-mul-if1 : tie.Need-mul-if1
-mul-if1 c = omega (arith, bounds (c .before))
+mul-code : tie.Need-mul-code
+mul-code c = omega (arith, bounds (c .before))
 
-slice-read-if1 : tie.Need-slice-read-if1
-slice-read-if1 c = omega (arith, bounds (c .before .before))
+slice-read-code : tie.Need-slice-read-code
+slice-read-code c = omega (arith, bounds (c .before .before))
+
+-- the word of s, as it is read
+word-at : (c : tie.Start) → getD (c .args .work .now) (n c + c .args .s) 0 ≡ plane (n c) 1 (c .args .work .now) (c .args .s)
+word-at c = plane-read (n c) 1 (c .args .s) (n c + c .args .s) (c .args .work .now) (omega arith)
 
 returns : tie.Need-returns
 returns c =
     let s = c .before .before .before in
-    (s .pre .0, (pass-clear (s .pre .0) (s .pre .1 .0) (s .pre .1 .1) (sym (paint-at s) ∙ c .if1 .taken), since-refl _))
+    (s .pre .0, (pass-low (s .pre .0 .1) (s .pre .0 .0) (s .pre .1 .0) (s .pre .1 .1) (omega (arith, word-at s, c .if1 .taken)), since-refl _))
 
-mul-n : tie.Need-mul-n
-mul-n c = omega (arith, bounds (c .before .before .before))
+abbrev start : tie.Else1 → tie.Start
+start c = c .before .before .before
 
-add-if2 : tie.Need-add-if2
-add-if2 c = omega (arith, bounds (c .before .before .before))
+abbrev old : tie.Else1 → List ℕ
+old c = seen (n (start c)) (start c .args .work .now)
 
-mul-if2 : tie.Need-mul-if2
-mul-if2 c = omega (arith, bounds (c .before .before .before))
+-- the word of s
+abbrev code : tie.Else1 → ℕ
+code c = getD (start c .args .work .now) (n (start c) + start c .args .s) 0
 
-slice-read-if2 : tie.Need-slice-read-if2
-slice-read-if2 c = omega (arith, bounds (c .before .before .before .before))
+fresh : (c : tie.Else1) → Fresh (n (start c)) (start c .args .work .now) (code c) (start c .args .s)
+fresh c = let s = start c in code-fresh (s .pre .0 .1) (c .if1 .left) (s .args .s) (s .pre .1 .1) (sym (word-at s))
 
-returns-2 : tie.Need-returns-2
-returns-2 c =
-    let s = c .before .before .before .before .before in
-    (s .pre .0, (pass-old (s .pre .0) (s .pre .1 .0) (s .pre .1 .1) (λ z. c .if2 .taken (label-at s ∙ z)), since-refl _))
+paint : (c : tie.Else1) → plane (n (start c)) 0 (old c) (start c .args .s) ≡ 0 → ⊥
+paint c z = omega (arith, fresh c .paint, c .if1 .left)
 
-abbrev start : tie.Else2 → tie.Start
-start c = c .before .before .before .before .before
+free : (c : tie.Else1) → plane (n (start c)) 1 (old c) (start c .args .s) ≡ 0
+free c = fresh c .free
 
-paint : (c : tie.Else2) → plane (n (start c)) 0 (start c .args .work .now) (start c .args .s) ≡ 0 → ⊥
-paint c z = c .before .before .if1 .left (paint-at (start c) ∙ z)
-
-free : (c : tie.Else2) → plane (n (start c)) 1 (start c .args .work .now) (start c .args .s) ≡ 0
-free c = sym (label-at (start c)) ∙ c .if2 .left
-
-left : (c : tie.Else2) → start c .args .t .taken < n (start c)
-left c = let s = start c in begin-fits (s .pre .0) (s .pre .1 .0) (s .pre .1 .1) (paint c) (free c)
+left : (c : tie.Else1) → start c .args .t .taken < n (start c)
+left c = let s = start c in begin-fits (s .pre .0 .0) (s .pre .1 .0) (s .pre .1 .1) (paint c) (free c)
 
 add-mark : tie.Need-add-mark
 add-mark c = omega (arith, bounds (start c), left c)
@@ -103,27 +102,58 @@ slice-write-work-2 c = simp length-set (omega (arith, bounds (start c), left c))
 add-next : tie.Need-add-next
 add-next c = omega (arith, bounds (start c), left c)
 
+-- the work area once s has its label, as it is and as it is seen
+abbrev raw : tie.Else1 → List ℕ
+raw c = let s = start c in joined (n s) (s .args .s) (s .args .t .regions + 1) (s .args .t .taken) (s .args .work .now)
+
+abbrev marked : tie.Else1 → List ℕ
+marked c = let s = start c in joined (n s) (s .args .s) (s .args .t .regions + 1) (s .args .t .taken) (old c)
+
+mark-most : (c : tie.Else1) → start c .args .t .regions + 1 ≤ 264196
+mark-most c = omega (arith, bounds (start c), left c)
+
+marked-seen : (c : tie.Else1) → seen (n (start c)) (raw c) ≡ marked c
+marked-seen c = let s = start c in seen-joined (n s) (s .args .s) (s .args .t .regions + 1) (s .args .t .taken) (s .args .work .now) (s .pre .1 .1) (left c) (mark-most c) (bounds s .room)
+
 flood-requires : tie.Need-flood-requires
-flood-requires c κs = let e = c .before in let s = start e in begin-flood (s .pre .0) (s .pre .1 .0) (s .pre .1 .1) (paint e) (free e)
+flood-requires c κs =
+    let e = c .before in
+    let s = start e in
+    let a = s .args in
+    let m : ℕ = n s in
+    let k = subst (λ (l : List ℕ). Flood (a .h) (a .w) (a .steps) l (a .t .taken) (record { regions = a .t .regions + 1; taken = a .t .taken + 1 }) × Tinted m l (a .t .taken) (a .t .taken + 1) (code e - 264196)) (sym (marked-seen e)) (
+      begin-flood (s .pre .0 .0) (s .pre .1 .0) (s .pre .1 .1) (paint e) (free e),
+      subst (λ (x : ℕ). Tinted m (marked e) (a .t .taken) (a .t .taken + 1) x) (fresh e .paint) (begin-tint (s .pre .0 .0) (s .pre .1 .0) (s .pre .1 .1) (paint e) (free e)),
+    ) in (
+      (k .0, coded-joined (s .pre .0 .1) (a .s) (a .t .regions + 1) (a .t .taken) (s .pre .1 .1) (left e) (omega arith) (mark-most e) (bounds s .room), k .1),
+      e .if1 .left,
+    )
 
 -- the region is whole
-abbrev begun : tie.After-slice-known4 → tie.Else2
+abbrev begun : tie.After-slice-known3 → tie.Else1
 begun c = c .before .before .before .before
 
-pub record Whole (c : tie.After-slice-known4) : Type 0 where
+pub record Whole (c : tie.After-slice-known3) : Type 0 where
   pub few : n (start (begun c)) ≤ 264196
   pub taken : c .before .before .flood .result .taken ≤ n (start (begun c))
   pub room : 3 * n (start (begun c)) + start (begun c) .args .t .regions < length (c .before .before .flood .last .0)
 
-whole-at : (c : tie.After-slice-known4) → Whole c
+-- what is kept since s got its label
+since : (c : tie.After-slice-known3) → Since (n (start (begun c))) (marked (begun c)) (seen (n (start (begun c))) (c .before .before .flood .last .0))
+since c =
+    let m : ℕ = n (start (begun c)) in
+    subst (λ (l : List ℕ). Since m l (seen m (c .before .before .flood .last .0))) (marked-seen (begun c)) (c .before .before .flood .ensures .1 .0)
+
+whole-at : (c : tie.After-slice-known3) → Whole c
 whole-at c =
     let e = begun c in
     let s = start e in
     let g = c .before .before .flood .ensures in
+    let l = closed-size (s .pre .0 .0) (s .pre .1 .0) (s .pre .1 .1) (paint e) (free e) (g .0 .0) (g .1 .1) (since c) in
     record {
       few = bounds s .few;
-      taken = omega (arith, g .0 .order .free);
-      room = closed-size (s .pre .0) (s .pre .1 .0) (s .pre .1 .1) (paint e) (free e) (g .0) (g .1 .1) (g .1 .0);
+      taken = omega (arith, g .0 .0 .order .free);
+      room = omega (arith, l, seen-size (n s) (c .before .before .flood .last .0));
     }
 
 cast-work-2 : tie.Need-cast-work-2
@@ -144,37 +174,45 @@ mul-work-5 c = omega (arith, bounds (start (begun c)), left (begun c))
 slice-write-work-3 : tie.Need-slice-write-work-3
 slice-write-work-3 c = whole-at c .room
 
-same-length : tie.Need-same-length
-same-length c =
+-- the work area once the end is stored, as it is seen
+ended-seen : (c : tie.After-slice-known3) → let m = n (start (begun c)) in let k = 3 * m + start (begun c) .args .t .regions in let r = c .before .before .flood in
+    seen m (set (r .last .0) k (r .result .taken)) ≡ set (seen m (r .last .0)) k (r .result .taken)
+ended-seen c = let r = c .before .before .flood in seen-end (n (start (begun c))) (start (begun c) .args .t .regions) (r .result .taken) (r .last .0) (whole-at c .room)
+
+ended-since : (c : tie.After-slice-known3) → let s = start (begun c) in let r = c .before .before .flood in
+    Since (n s) (old (begun c)) (set (seen (n s) (r .last .0)) (3 * n s + s .args .t .regions) (r .result .taken))
+ended-since c =
     let e = begun c in
     let s = start e in
     let g = c .before .before .flood .ensures in
-    closed-since (s .pre .0) (s .pre .1 .0) (s .pre .1 .1) (paint e) (free e) (g .0) (g .1 .1) (g .1 .0) .kept .size
+    closed-since (s .pre .0 .0) (s .pre .1 .0) (s .pre .1 .1) (paint e) (free e) (g .0 .0) (g .1 .1) (since c)
 
-returns-3 : tie.Need-returns-3
-returns-3 c =
+same-length : tie.Need-same-length
+same-length c = seen-length _ _ _ (ap length (ended-seen c) ∙ ended-since c .kept .size)
+
+returns-2 : tie.Need-returns-2
+returns-2 c =
     let e = begun c in
     let s = start e in
-    let g = c .before .before .flood .ensures in (
-      closed-filled (s .pre .0) (s .pre .1 .0) (s .pre .1 .1) (paint e) (free e) (g .0) (g .1 .1) (g .1 .0),
-      (
-        closed-passed (s .pre .0) (s .pre .1 .0) (s .pre .1 .1) (paint e) (free e) (g .0) (g .1 .1) (g .1 .0),
-        closed-since (s .pre .0) (s .pre .1 .0) (s .pre .1 .1) (paint e) (free e) (g .0) (g .1 .1) (g .1 .0),
-      ),
-    )
+    let a = s .args in
+    let r = c .before .before .flood in
+    let g = r .ensures in
+    let k = subst (λ (l : List ℕ). Filled (a .h) (a .w) (a .steps) l (r .result .regions) (r .result) Shut × Passed (a .h) (a .w) (a .steps) l (r .result) (a .s + 1) × Since (n s) (old e) l) (sym (ended-seen c)) (
+      closed-filled (s .pre .0 .0) (s .pre .1 .0) (s .pre .1 .1) (paint e) (free e) (g .0 .0) (g .1 .1) (since c),
+      closed-passed (s .pre .0 .0) (s .pre .1 .0) (s .pre .1 .1) (paint e) (free e) (g .0 .0) (g .1 .1) (since c),
+      ended-since c,
+    ) in
+    ((k .0, coded-end (g .0 .1) (a .t .regions) (r .result .taken) (omega (arith, bounds s, left e))), (k .1, k .2))
 
 pub begin-spec : {M : Type 1} → statement M
 begin-spec =
     tie.close
     (tie.spec
-    mul-if1
-    slice-read-if1
-    returns
     mul-n
-    add-if2
-    mul-if2
-    slice-read-if2
-    returns-2
+    add-code
+    mul-code
+    slice-read-code
+    returns
     add-mark
     add-work
     mul-work
@@ -193,4 +231,4 @@ begin-spec =
     mul-work-5
     slice-write-work-3
     same-length
-    returns-3)
+    returns-2)

@@ -2,34 +2,35 @@
 use mathlib.Core.Path.{_≡_, refl, _∙_}
 use Prim.Native.Nat.{_-_, _*_, _<_}
 use native.Mathlib.Omega.{arith}
-use Rattle.grid.specs.Filling.{Flood, Since}
+use Rattle.grid.specs.Filling.{seen, Coded, Flood, Tinted, Since}
 use Rattle.grid.proofs.Places.{area}
 use Rattle.grid.proofs.Filling.{since-refl, since-trans}
 use Rattle.grid.proofs.Flooding.{whole}
+use Rattle.grid.proofs.Seen.{seen-length}
 use Rattle.grid.proofs.label.flood.Statement.{statement}
 use Rattle.grid.proofs.label.flood.Tie as tie
 
 abbrev Inv-loop : tie.InvT-loop
-Inv-loop work₀ h w steps first t₀ head₀ work t head =
-    Flood h w steps work head t × Since (h * w) work₀ work × (t .regions ≡ t₀ .regions)
+Inv-loop work₀ h w steps first code t₀ head₀ work t head =
+    (Flood h w steps (seen (h * w) work) head t × Coded (h * w) work × Tinted (h * w) (seen (h * w) work) head (t .taken) (code - 264196)) × Since (h * w) (seen (h * w) work₀) (seen (h * w) work) × (t .regions ≡ t₀ .regions)
 
 abbrev μ-loop : tie.MeasureT-loop
-μ-loop work₀ h w steps first t₀ head₀ work t head = h * w - head
+μ-loop work₀ h w steps first code t₀ head₀ work t head = h * w - head
 
 loop-holds : tie.Need-loop-holds Inv-loop μ-loop
-loop-holds c = (c .before .pre, since-refl _, refl)
+loop-holds c = (c .before .pre .0, since-refl _, refl)
 
 visit-all-requires : tie.Need-visit-all-requires Inv-loop μ-loop
-visit-all-requires c κs = let t = c .before in (t .before .before .loop .inv .0, t .if1 .taken)
+visit-all-requires c κs = let t = c .before in (t .before .before .loop .inv .0, (t .if1 .taken, t .before .before .before .before .pre .1))
 
 -- what waits is on the grid
 head-in : (c : tie.Then1 Inv-loop μ-loop) → let s = c .before .before .before .before .args in c .before .before .loop .head < s .h * s .w
-head-in c = omega (arith, c .before .before .loop .inv .0 .filled .order .free, c .if1 .taken)
+head-in c = omega (arith, c .before .before .loop .inv .0 .0 .filled .order .free, c .if1 .taken)
 
 add-head : tie.Need-add-head Inv-loop μ-loop
 add-head c =
     let t = c .before .before .before .before in
-    let z = t .before .before .loop .inv .0 .filled .sized in
+    let z = t .before .before .loop .inv .0 .0 .filled .sized in
     omega (arith, head-in t, area _ _ (z .rows) (z .cols))
 
 loop-less : tie.Need-loop-less Inv-loop μ-loop
@@ -43,12 +44,12 @@ loop-again c =
     (e .0, since-trans (i .1) (e .1 .0), e .1 .1 .0 ∙ i .2)
 
 same-length : tie.Need-same-length Inv-loop μ-loop
-same-length c = c .before .before .loop .inv .1 .kept .size
+same-length c = seen-length _ _ _ (c .before .before .loop .inv .1 .kept .size)
 
 returns : tie.Need-returns Inv-loop μ-loop
 returns c =
     let i = c .before .before .loop .inv in
-    (whole (i .0) (c .if1 .left), (i .1, i .2))
+    ((whole (i .0 .0) (c .if1 .left), i .0 .1), (i .1, i .2))
 
 pub flood-spec : {M : Type 1} → statement M
 flood-spec =

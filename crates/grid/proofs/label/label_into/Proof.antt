@@ -7,16 +7,16 @@ use Rattle.grid.proofs.label.label_into.Statement.{statement}
 use Rattle.grid.proofs.label.label_into.Tie as tie
 
 mul-n : tie.Need-mul-n
-mul-n c = let s = c .before .before in omega (arith, area _ _ (s .pre .0 .rows) (s .pre .0 .cols))
+mul-n c = let s = c .before .before in omega (arith, area _ _ (s .pre .0 .0 .rows) (s .pre .0 .0 .cols))
 
 label-planes-requires : tie.Need-label-planes-requires
-label-planes-requires c κs = c .before .before .before .pre .0
+label-planes-requires c κs = let s = c .before .before .before in (s .pre .0 .0, s .pre .1)
 
 copy-requires : tie.Need-copy-requires
 copy-requires c κs =
     let l = c .before .before .before .before in
     let s = l .before .before .before .before in
-    (omega (arith, s .pre .0 .planes, l .label-planes .ensures .1 .size), s .pre .1, area _ _ (s .pre .0 .rows) (s .pre .0 .cols))
+    (omega (arith, s .pre .0 .0 .planes, l .label-planes .ensures .1 .size), s .pre .0 .1, area _ _ (s .pre .0 .0 .rows) (s .pre .0 .0 .cols))
 
 same-length : tie.Need-same-length
 same-length c = c .before .before .before .before .before .before .before .label-planes .ensures .1 .size
@@ -30,7 +30,7 @@ returns c =
     let l = f .before .before .before .before .before in
     let s = l .before .before .before .before in
     let g = l .label-planes .ensures .0 in
-    (g .count, f .copy .ensures ∙ filled-same _ _ _ _ (s .pre .1) (g .labels))
+    (g .count, f .copy .ensures ∙ filled-same _ _ _ _ (s .pre .0 .1) (g .labels))
 
 pub label-into-spec : {M : Type 1} → statement M
 label-into-spec =

@@ -1,7 +1,8 @@
 -- `grid::label::visit`: one step. Assumes nothing.
-use mathlib.Core.Path.{_≡_, refl, sym, _∙_}
+use mathlib.Core.Path.{_≡_, refl, sym, _∙_, subst}
+use mathlib.Core.List.{List}
 use mathlib.Core.Option.{Option, some}
-use Prim.Native.Nat.{ℕ, _+_, _*_, _/_, _%_, _<_, _≤_}
+use Prim.Native.Nat.{ℕ, _+_, _-_, _*_, _/_, _%_, _<_, _≤_}
 use native.Mathlib.Omega.{arith}
 use borrow.Author.Needs.{needs}
 use lib.Dec.{eqb}
@@ -11,9 +12,10 @@ use Rattle.base.proofs.Counting.{count-some, yes-eqb}
 use Rattle.rules.specs.Grid.{stepTo}
 use Rattle.grid.specs.Steps.{stepOf}
 use Rattle.grid.specs.Planes.{plane}
-use Rattle.grid.specs.Filling.{blanks, Visited}
+use Rattle.grid.specs.Filling.{seen, Coded, blanks, Visited}
 use Rattle.grid.proofs.Places.{area, step-sound, step-cell, step-off, some-inj, none-some}
 use Rattle.grid.proofs.Planes.{plane-read}
+use Rattle.grid.proofs.Seen.{seen-joined, Fresh, code-kept, code-fresh, coded-joined}
 use Rattle.grid.proofs.label.visit.Statement.{statement}
 use Rattle.grid.proofs.label.visit.Tie as tie
 
@@ -41,7 +43,8 @@ found : (c : tie.After-reached) → c .reached .result ≡ stepOf (to (c .before
 found c = let s = c .before .before in rw (toZ-ofZ (s .fits .dy), toZ-ofZ (s .fits .dx)) at (c .reached .ensures)
 
 returns : tie.Need-returns
-returns c = Visited.kept (λ q e same free. none-some (sym (step-off (sym (found (c .before .before)) ∙ c .enum-told .given .1)) ∙ e))
+returns c =
+    (Visited.kept (λ q e same free. none-some (sym (step-off (sym (found (c .before .before)) ∙ c .enum-told .given .1)) ∙ e)), c .before .before .before .before .pre .1 .1 .1 .0)
 
 abbrev start : tie.After-q → tie.Start
 start c = c .before .before .before .before
@@ -69,51 +72,48 @@ bounds c =
     let s = start c in
     record { on = step-sound _ _ _ _ _ _ _ (q-is c) .inside; few = area _ _ (s .pre .0 .1) (s .pre .0 .2); room = s .pre .0 .3 }
 
+add-if1 : tie.Need-add-if1
+add-if1 c = omega (arith, bounds (c .before))
+
 mul-if1 : tie.Need-mul-if1
 mul-if1 c = omega (arith, bounds (c .before))
 
 slice-read-if1 : tie.Need-slice-read-if1
 slice-read-if1 c = omega (arith, bounds (c .before .before))
 
--- the paint and the label of the cell, as they are read
-paint-at : (c : tie.After-q) (r : ℕ) → r ≡ q c → getD (start c .args .work .now) (q c) 0 ≡ plane (n c) 0 (start c .args .work .now) r
-paint-at c r e = plane-read (n c) 0 r (q c) (start c .args .work .now) (omega arith)
+-- the word of the cell, as it is read
+word-at : (c : tie.After-q) (r : ℕ) → r ≡ q c → getD (start c .args .work .now) (n c + q c) 0 ≡ plane (n c) 1 (start c .args .work .now) r
+word-at c r e = plane-read (n c) 1 r (n c + q c) (start c .args .work .now) (omega arith)
 
-label-at : (c : tie.After-q) (r : ℕ) → r ≡ q c → getD (start c .args .work .now) (n c + q c) 0 ≡ plane (n c) 1 (start c .args .work .now) r
-label-at c r e = plane-read (n c) 1 r (n c + q c) (start c .args .work .now) (omega arith)
+coded : (c : tie.After-q) → Coded (n c) (start c .args .work .now)
+coded c = start c .pre .1 .1 .1 .0
+
+above : (c : tie.After-q) → 264196 < start c .args .code
+above c = start c .pre .1 .1 .1 .1
 
 returns-2 : tie.Need-returns-2
 returns-2 c =
-    let a = c .before .before .before in
-    Visited.kept (λ r e same free. c .if1 .taken (paint-at a r (only a r e) ∙ same))
+    let a = c .before .before .before in (
+      Visited.kept (λ r e same free.
+          let l : r < n a = omega (arith, bounds a .on, only a r e) in
+          code-kept (coded a) (above a) r l (λ z. c .if1 .taken (word-at a r (only a r e) ∙ z)) same free),
+      coded a,
+    )
 
-add-if2 : tie.Need-add-if2
-add-if2 c = omega (arith, bounds (c .before .before .before))
+abbrev to-q : tie.Else1 → tie.After-q
+to-q c = c .before .before .before
 
-mul-if2 : tie.Need-mul-if2
-mul-if2 c = omega (arith, bounds (c .before .before .before))
-
-slice-read-if2 : tie.Need-slice-read-if2
-slice-read-if2 c = omega (arith, bounds (c .before .before .before .before))
-
-abbrev to-q : tie.Else2 → tie.After-q
-to-q c = c .before .before .before .before .before
-
-returns-3 : tie.Need-returns-3
-returns-3 c =
-    let a = c .before .before .before .before .before in
-    Visited.kept (λ r e same free. c .if2 .taken (label-at a r (only a r e) ∙ free))
-
-free-at : (c : tie.Else2) → plane (n (to-q c)) 1 (start (to-q c) .args .work .now) (q (to-q c)) ≡ 0
-free-at c = sym (label-at (to-q c) (q (to-q c)) refl) ∙ c .if2 .left
+-- the cell has no label, and the paint that the word tells
+fresh : (c : tie.Else1) → Fresh (n (to-q c)) (start (to-q c) .args .work .now) (start (to-q c) .args .code) (q (to-q c))
+fresh c = let a = to-q c in code-fresh (coded a) (above a) (q a) (bounds a .on) (sym (word-at a (q a) refl) ∙ c .if1 .left)
 
 -- a cell without a label leaves room in the order
-left : (c : tie.Else2) → start (to-q c) .args .t .taken < n (to-q c)
+left : (c : tie.Else1) → start (to-q c) .args .t .taken < n (to-q c)
 unfolding blanks
 left c =
     let a = to-q c in
-    let w = start a .args .work .now in
-    omega (arith, start a .pre .1 .1, count-some (n a) (λ p. eqb (plane (n a) 1 w p) 0) (q a) (bounds a .on) (yes-eqb (free-at c)))
+    let w = seen (n a) (start a .args .work .now) in
+    omega (arith, start a .pre .1 .1 .0 .0, count-some (n a) (λ p. eqb (plane (n a) 1 w p) 0) (q a) (bounds a .on) (yes-eqb (fresh c .free)))
 
 add-work : tie.Need-add-work
 add-work c = omega (arith, bounds (to-q c))
@@ -145,10 +145,18 @@ add-next c = omega (arith, bounds (to-q c), left c)
 same-length : tie.Need-same-length
 same-length c = simp length-set
 
-returns-4 : tie.Need-returns-4
-returns-4 c =
+returns-3 : tie.Need-returns-3
+returns-3 c =
     let a = to-q c in
-    Visited.took (q a) (q-is a) (sym (paint-at a (q a) refl) ∙ c .before .before .if1 .left) (free-at c)
+    let b = start a .pre .1 .1 .0 in
+    let f = fresh c in
+    let w = start a .args .work .now in
+    let t = start a .args .t in (
+      subst (λ (l : List ℕ). Visited (n a) (to (start a)) (start a .args .code - 264196) (seen (n a) w) t l (record { regions = t .regions; taken = t .taken + 1 }))
+          (sym (seen-joined (n a) (q a) (t .regions) (t .taken) w (bounds a .on) (left c) (b .2) (bounds a .room)))
+          (Visited.took (q a) (q-is a) (f .paint) (f .free)),
+      coded-joined (coded a) (q a) (t .regions) (t .taken) (bounds a .on) (left c) (b .1) (b .2) (bounds a .room),
+    )
 
 pub visit-spec : {M : Type 1} → statement M
 visit-spec =
@@ -159,13 +167,10 @@ visit-spec =
     enum-known-q
     enum-told
     returns
+    add-if1
     mul-if1
     slice-read-if1
     returns-2
-    add-if2
-    mul-if2
-    slice-read-if2
-    returns-3
     add-work
     mul-work
     slice-write-work
@@ -176,4 +181,4 @@ visit-spec =
     slice-write-work-2
     add-next
     same-length
-    returns-4)
+    returns-3)

@@ -6,20 +6,20 @@ use native.Mathlib.Omega.{arith}
 use lib.ListN.{length}
 use Rattle.base.specs.Outputs.{filled}
 use Rattle.base.proofs.Fills.{filled-none}
-use Rattle.grid.specs.Tiles.{paintAt}
-use Rattle.grid.proofs.Tiles.{same-tile, filled-to}
+use Rattle.grid.specs.Tiles.{paintAt, Paints}
+use Rattle.grid.proofs.Tiles.{same-tile, filled-to, paints-none, paints-to}
 use Rattle.grid.proofs.tile.load.Statement.{statement}
 use Rattle.grid.proofs.tile.load.Tie as tie
 
 abbrev Inv-loop : tie.InvT-loop
 Inv-loop cells work₀ start stride h w y₀ work y =
-    (y ≤ h) × (length work ≡ length work₀) × (work ≡ filled (y * w) (paintAt cells start stride w) work₀)
+    (y ≤ h) × (length work ≡ length work₀) × (work ≡ filled (y * w) (paintAt cells start stride w) work₀) × Paints (y * w) work
 
 abbrev μ-loop : tie.MeasureT-loop
 μ-loop cells work₀ start stride h w y₀ work y = h - y
 
 loop-holds : tie.Need-loop-holds Inv-loop μ-loop
-loop-holds c = let a = c .before .args in (omega arith, refl, filled-to 0 (0 * a .w) _ _ _ (sym (zero-mul (a .w))) (filled-none _ _))
+loop-holds c = let a = c .before .args in (omega arith, refl, filled-to 0 (0 * a .w) _ _ _ (sym (zero-mul (a .w))) (filled-none _ _), paints-to (sym (zero-mul (a .w))) (paints-none _))
 
 load-row-requires : tie.Need-load-row-requires Inv-loop μ-loop
 load-row-requires c κs = let i = c .before in (same-tile (i .before .before .before .pre) refl (i .before .loop .inv .1), i .loop-test .taken)
@@ -38,7 +38,7 @@ loop-again c =
     let r = c .before .before in
     let i = looped c in
     let v = i .before .loop .inv in
-    (omega (arith, i .loop-test .taken), r .load-row .kept .1 .0 ∙ v .1, r .load-row .ensures _ (v .2))
+    (omega (arith, i .loop-test .taken), r .load-row .kept .1 .0 ∙ v .1, r .load-row .ensures .0 _ (v .2), r .load-row .ensures .1 (v .3))
 
 same-length : tie.Need-same-length Inv-loop μ-loop
 same-length c = c .before .loop .inv .1
@@ -48,7 +48,8 @@ returns c =
     let v = c .before .loop .inv in
     let s = c .before .before .before .args in
     let e : c .before .loop .y ≡ s .h = omega (arith, v .0, c .loop-test .left) in
-    filled-to (c .before .loop .y * s .w) (s .h * s .w) _ _ _ (ap (λ (k : ℕ). k * s .w) e) (v .2)
+    let d : c .before .loop .y * s .w ≡ s .h * s .w = ap (λ (k : ℕ). k * s .w) e in
+    (filled-to (c .before .loop .y * s .w) (s .h * s .w) _ _ _ d (v .2), paints-to d (v .3))
 
 pub load-spec : {M : Type 1} → statement M
 load-spec =

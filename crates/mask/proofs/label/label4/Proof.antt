@@ -11,7 +11,7 @@ use Rattle.rules.specs.Masks.{gridRefusal, maskCells, maskRefusal, maskAnswer, 
 use Rattle.grid.specs.Planes.{Painted}
 use Rattle.grid.proofs.Places.{hood-four}
 use Rattle.grid.proofs.Answers.{filling-done, filling-refused, Sizes, sizes-clear, refused, granted, painted-regions, painted-labels}
-use Rattle.mask.proofs.Cells.{mask-painted}
+use Rattle.mask.proofs.Cells.{mask-painted, bits-small}
 use Rattle.mask.proofs.label.label4.Statement.{statement}
 use Rattle.mask.proofs.label.label4.Tie as tie
 
@@ -46,9 +46,10 @@ paint-requires c κs = let f = fit (c .before) in (f .reads, omega (arith, f .pl
 label-into-requires : tie.Need-label-into-requires
 label-into-requires c κs =
     let p = c .before .before .before .before in
+    let a = start (p .before .before) .args in
     let f = fit (p .before .before) in (
-      record { rows = omega (arith, f .rows); cols = omega (arith, f .cols); count = inl refl; planes = omega (arith, f .planes, p .paint .kept .1 .1 .0) },
-      f .fills,
+      (record { rows = omega (arith, f .rows); cols = omega (arith, f .cols); count = inl refl; planes = omega (arith, f .planes, p .paint .kept .1 .1 .0) }, f .fills),
+      bits-small (a .mask .now) (a .work .now) (p .paint .last .1 .1 .0) (a .h * a .w) (p .paint .ensures),
     )
 
 same-length : tie.Need-same-length
