@@ -1,7 +1,7 @@
 -- What becomes of a cell by one corner, and by the first of several. Assumes nothing.
 use Prim.Native.Nat.{ℕ, zero, suc, _-_, _<_}
 use mathlib.Core.Path.{_≡_, refl, sym, ap, _∙_}
-use mathlib.Core.Logic.{inl, inr}
+use mathlib.Core.Logic.{_⊎_, inl, inr}
 use mathlib.Core.Bool.{Bool, true, false, not, _&&_, cond, false≢true}
 use mathlib.Core.List.{List, [], _∷_}
 use native.Mathlib.Numerals.{add-one}
@@ -14,8 +14,24 @@ use Rattle.base.proofs.Counting.{case, clash, left, right, not-true, eqb-yes, y
 use Rattle.rules.specs.Sheet.{Sheet}
 use Rattle.rules.specs.Corners.{Corner, one, minusOne, corners, same, finds, opposite, arms, around, goesOn, isCorner, trimmedBy}
 use Rattle.grid.specs.Planes.{paintOf, cellOf}
-use Rattle.jaggies.specs.Rows.{Sign, way, found, cut, toward}
+use Rattle.jaggies.specs.Rows.{OnBoth, Sign, way, found, cut, toward}
 use Rattle.jaggies.proofs.Steps.{same-paint, finds-paint}
+
+-- ---- a paint on two sides
+
+pub on-both-same : {x y a : ℕ} → x ≡ y → OnBoth x y a
+on-both-same e = record { there = λ h. sym e ∙ h; back = λ h. e ∙ h }
+
+pub on-both-there : {x y a : ℕ} → x ≡ a → y ≡ a → OnBoth x y a
+on-both-there e f = record { there = λ h. f; back = λ h. e }
+
+pub on-neither : {x y a : ℕ} → (x ≡ a → ⊥) → (y ≡ a → ⊥) → OnBoth x y a
+on-neither e f = record { there = λ h. absurd (e h); back = λ h. absurd (f h) }
+
+pub either-no : (b d : Bool) → not (b && d) ≡ true → (b ≡ false) ⊎ (d ≡ false)
+either-no false d e = inl refl
+either-no true false e = inr refl
+either-no true true e = absurd (false≢true e)
 
 -- ---- paint and cells
 
@@ -186,20 +202,16 @@ module _ (s : Sheet) (p : ℕ) (a : ℕ) (la : 0 < a) where
     not-down : (sx : ℤ) → (d ≡ a → u ≡ a) → corner one sx ≡ 0
     not-down sx f = no-corner (way one sx) (λ k. k .behind (sym eu ∙ f (ed ∙ k .along)))
 
-    -- alike on both sides: no corner
-    pub level : l ≡ r → a ≡ paintOf (trimmedBy s p corners (cellOf a))
+    -- its paint on both sides or on neither: no corner
+    pub level : OnBoth l r a → a ≡ paintOf (trimmedBy s p corners (cellOf a))
     unfolding orElse
-    level e =
-        let g : l ≡ a → r ≡ a = λ x. sym e ∙ x in
-        let f : r ≡ a → l ≡ a = λ x. e ∙ x in
-        sym (by-four ∙ rw (not-left minusOne g, not-right minusOne f, not-left one g, not-right one f))
+    level k =
+        sym (by-four ∙ rw (not-left minusOne (k .there), not-right minusOne (k .back), not-left one (k .there), not-right one (k .back)))
 
-    pub upright : u ≡ d → a ≡ paintOf (trimmedBy s p corners (cellOf a))
+    pub upright : OnBoth u d a → a ≡ paintOf (trimmedBy s p corners (cellOf a))
     unfolding orElse
-    upright e =
-        let g : u ≡ a → d ≡ a = λ x. sym e ∙ x in
-        let f : d ≡ a → u ≡ a = λ x. e ∙ x in
-        sym (by-four ∙ rw (not-up minusOne g, not-up one g, not-down minusOne f, not-down one f))
+    upright k =
+        sym (by-four ∙ rw (not-up minusOne (k .there), not-up one (k .there), not-down minusOne (k .back), not-down one (k .back)))
 
     -- else the one corner that it can be
     pub turned : orElse (corner (toward d a) (toward r a)) a ≡ paintOf (trimmedBy s p corners (cellOf a))

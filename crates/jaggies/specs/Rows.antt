@@ -108,3 +108,8 @@ cut s p c a = cond (isCorner s p c a (opposite s p c)) (paintOf (opposite s p c)
 -- the way from a cell of the paint a to an arm: on, if the next cell that way has the paint too, else back
 unfoldable pub toward : ℕ → ℕ → ℤ
 toward next a = cond (eqb next a) one minusOne
+
+-- the paint a stands on both of two sides or on neither
+pub record OnBoth (x y a : ℕ) : Type 0 where
+  pub there : x ≡ a → y ≡ a
+  pub back : y ≡ a → x ≡ a

@@ -4,6 +4,7 @@ use base::Filling;
 use grid::Step;
 use grid::neighbour;
 ghost use mathlib.Core.Path.{_≡_};
+ghost use mathlib.Core.Bool.{false};
 ghost use mathlib.Core.List.{List};
 ghost use Prim.Native.Nat.{ℕ, _+_, _-_, _*_, _≤_, _<_};
 ghost use lib.IntN.{ℤ};
@@ -12,7 +13,7 @@ ghost use Rattle.rules.specs.Sheet.{sheetOf, over};
 ghost use Rattle.rules.specs.Corners.{finds, arms, around, goesOn, corners, trimmedBy, trim};
 ghost use Rattle.rules.specs.Entries.{jaggiesAnswer, jaggiesCells};
 ghost use Rattle.grid.specs.Planes.{paintOf, cellOf};
-ghost use Rattle.jaggies.specs.Rows.{placeOf, endOf, spot, most, paintAt, Room, Held, Trimmed, Moved, Short, Way, way, found, Sees, cut, toward};
+ghost use Rattle.jaggies.specs.Rows.{placeOf, endOf, spot, most, paintAt, Room, Held, Trimmed, Moved, Short, Way, way, found, Sees, cut, toward, OnBoth};
 
 // Row y and column x of a sheet of h rows of w cells.
 struct Spot {
@@ -138,6 +139,13 @@ fn toward(next: u32, a: u32) -> i32
     if next == a { 1 } else { -1 }
 }
 
+// Whether the paint a stands on one side alone. Where it does not, it stands on both or on neither.
+fn on_one(x: u32, y: u32, a: u32) -> bool
+    ensures { λ r. ⌜ (r ≡ false → OnBoth x y a) ⌝ }
+{
+    if x == a { y != a } else { y == a }
+}
+
 // What a spot of the paint a becomes. It can be one corner at most: at a corner one of the cells beside the spot, and one of those
 // above and below it, has its paint.
 fn trimmed(cells: &[i32], work: &[u32], at: Spot, a: u32) -> u32
@@ -152,7 +160,7 @@ fn trimmed(cells: &[i32], work: &[u32], at: Spot, a: u32) -> u32
     }
     let above = look(cells, work, at, -1, 0);
     let below = look(cells, work, at, 1, 0);
-    if above == below {
+    if !(on_one(left, right, a) & on_one(above, below, a)) {
         return a;
     }
     let to = cut(cells, work, at, toward(below, a), toward(right, a), a);

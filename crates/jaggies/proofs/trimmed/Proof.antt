@@ -1,6 +1,7 @@
 -- `trimmed` meets its contract: the one corner that the spot can be decides. Assumes nothing.
 use Prim.Native.Nat.{ℕ, _<_}
 use mathlib.Core.Path.{_≡_, refl, ap, _∙_}
+use mathlib.Core.Logic.{inl, inr}
 use mathlib.Core.List.{List}
 use native.Mathlib.Omega.{arith}
 use borrow.Author.Needs.{needs}
@@ -10,7 +11,7 @@ use Rattle.rules.specs.Corners.{corners, trimmedBy}
 use Rattle.grid.specs.Planes.{paintOf, cellOf}
 use Rattle.jaggies.specs.Rows.{placeOf, Sign, Shown}
 use Rattle.jaggies.proofs.Signs.{on}
-use Rattle.jaggies.proofs.Cuts.{orElse, or-this, or-other, toward-sign, level, upright, turned}
+use Rattle.jaggies.proofs.Cuts.{on-both-same, either-no, orElse, or-this, or-other, toward-sign, level, upright, turned}
 use Rattle.jaggies.proofs.trimmed.Statement.{statement}
 use Rattle.jaggies.proofs.trimmed.Tie as tie
 
@@ -24,7 +25,7 @@ returns : tie.Need-returns
 returns c =
     let l = c .before in
     let s = l .before .before .before in (
-      λ old seen. level _ _ _ (s .pre .1) _ _ _ _ (l .before .look .ensures .0 old seen) (l .look2 .ensures .0 old seen) refl refl (c .if1 .taken),
+      λ old seen. level _ _ _ (s .pre .1) _ _ _ _ (l .before .look .ensures .0 old seen) (l .look2 .ensures .0 old seen) refl refl (on-both-same (c .if1 .taken)),
       (s .pre .1, s .pre .2),
     )
 
@@ -34,12 +35,22 @@ look-requires-3 c κs = search needs
 look-requires-4 : tie.Need-look-requires-4
 look-requires-4 c κs = search needs
 
+on-one-requires : tie.Need-on-one-requires
+on-one-requires c κs = search needs
+
+on-one-requires-2 : tie.Need-on-one-requires-2
+on-one-requires-2 c κs = search needs
+
 returns-2 : tie.Need-returns-2
 returns-2 c =
-    let v = c .before in
+    let o = c .before in
+    let v = o .before .before in
     let l = v .before .before .before in
     let s = l .before .before .before in (
-      λ old seen. upright _ _ _ (s .pre .1) _ _ _ _ (l .before .look .ensures .0 old seen) (l .look2 .ensures .0 old seen) (v .before .look3 .ensures .0 old seen) (v .look4 .ensures .0 old seen) (c .if2 .taken),
+      λ old seen. elim (either-no (o .before .on-one .result) (o .on-one2 .result) (c .if2 .taken)) [
+        | inl z ↦ level _ _ _ (s .pre .1) _ _ _ _ (l .before .look .ensures .0 old seen) (l .look2 .ensures .0 old seen) (v .before .look3 .ensures .0 old seen) (v .look4 .ensures .0 old seen) (o .before .on-one .ensures z)
+        | inr z ↦ upright _ _ _ (s .pre .1) _ _ _ _ (l .before .look .ensures .0 old seen) (l .look2 .ensures .0 old seen) (v .before .look3 .ensures .0 old seen) (v .look4 .ensures .0 old seen) (o .on-one2 .ensures z)
+      ],
       (s .pre .1, s .pre .2),
     )
 
@@ -50,7 +61,7 @@ toward-requires-2 : tie.Need-toward-requires-2
 toward-requires-2 c κs = search needs
 
 abbrev start : tie.Else2 → tie.Start
-start c = c .before .before .before .before .before .before .before
+start c = c .before .before .before .before .before .before .before .before .before
 
 -- the ways to the arms
 rows : (c : tie.After-toward) → Sign (c .toward .result)
@@ -72,7 +83,7 @@ comes : (c : tie.After-cut) (old : List ℤ) →
 comes c old seen =
     let t = c .before in
     let e = t .before .before in
-    let v = e .before in
+    let v = e .before .before .before in
     let l = v .before .before .before in
     let s = start e in
     let k = rw (on (rows (t .before)), on (cols t), t .before .toward .ensures, t .toward2 .ensures) at (c .cut .ensures .0 old seen) in
@@ -96,6 +107,8 @@ trimmed-spec =
     returns
     look-requires-3
     look-requires-4
+    on-one-requires
+    on-one-requires-2
     returns-2
     toward-requires
     toward-requires-2
