@@ -32,12 +32,11 @@ pub fn bad_colour(palette: &[f64], k: usize) -> bool
     ensures { λ r. ⌜ r ≡ outOfRange (paletteOf (now (palette .entry)) k) ⌝ }
 {
     let n = 3 * k;
+    let mut bad = false;
     for i in 0..n {
-        if !color::cielab::within(palette[i]) {
-            return true;
-        }
+        bad = !color::cielab::within(palette[i]) | bad;
     }
-    false
+    bad
 }
 
 // Whether x is from lo to hi, and no NaN.
