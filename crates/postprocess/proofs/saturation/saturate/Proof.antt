@@ -1,36 +1,39 @@
--- `postprocess::saturate` meets its contract. The loop: the doubles before i are written. Assumes nothing.
-use Prim.Native.Nat.{_-_, _≤_}
+-- `postprocess::saturate` meets its contract. The loop: the entries before i are written. Assumes nothing.
+use Prim.Native.Nat.{_*_, _-_, _≤_}
+use mathlib.Core.Path.{_≡_}
 use native.Mathlib.Omega.{arith}
 use Rattle.postprocess.proofs.Tones.{Saturates, saturates-start, saturates-step, saturates-end}
 use Rattle.postprocess.proofs.saturation.saturate.Statement.{statement}
 use Rattle.postprocess.proofs.saturation.saturate.Tie as tie
 
 abbrev Inv-loop : tie.InvT-loop
-Inv-loop palette₀ k beta n i₀ palette i = (i ≤ n) × Saturates palette₀ beta i palette
+Inv-loop palette₀ k beta i₀ palette i = (i ≤ k) × Saturates palette₀ beta (3 * i) palette
 
 abbrev μ-loop : tie.MeasureT-loop
-μ-loop palette₀ k beta n i₀ palette i = n - i
-
-mul-n : tie.Need-mul-n Inv-loop μ-loop
-mul-n c = omega arith
+μ-loop palette₀ k beta i₀ palette i = k - i
 
 loop-holds : tie.Need-loop-holds Inv-loop μ-loop
 loop-holds c = (omega arith, saturates-start _ _)
 
-mul-x : tie.Need-mul-x Inv-loop μ-loop
-mul-x c = omega arith
+mul-scale : tie.Need-mul-scale Inv-loop μ-loop
+mul-scale c = omega arith
 
-slice-read-x : tie.Need-slice-read-x Inv-loop μ-loop
-slice-read-x c = omega arith
+add-scale : tie.Need-add-scale Inv-loop μ-loop
+add-scale c = omega arith
 
-scaled-requires : tie.Need-scaled-requires Inv-loop μ-loop
-scaled-requires c κs = tt
+scale-requires : tie.Need-scale-requires Inv-loop μ-loop
+scale-requires c κs = omega (arith, c .before .before .loop .inv .1 .size)
 
-mul-palette : tie.Need-mul-palette Inv-loop μ-loop
-mul-palette c = omega arith
+mul-scale-2 : tie.Need-mul-scale-2 Inv-loop μ-loop
+mul-scale-2 c = omega arith
 
-slice-write-palette : tie.Need-slice-write-palette Inv-loop μ-loop
-slice-write-palette c = omega arith
+add-scale-2 : tie.Need-add-scale-2 Inv-loop μ-loop
+add-scale-2 c = omega arith
+
+scale-requires-2 : tie.Need-scale-requires-2 Inv-loop μ-loop
+scale-requires-2 c κs =
+    let t = c .before .before .before in
+    omega (arith, t .scale .kept .0, t .before .before .before .loop .inv .1 .size)
 
 add-i : tie.Need-add-i Inv-loop μ-loop
 add-i c = omega arith
@@ -40,14 +43,18 @@ loop-less c = omega arith
 
 loop-again : tie.Need-loop-again Inv-loop μ-loop
 loop-again c =
-    let l = c .before .before .before in
-    (omega arith, saturates-step _ _ (c .scaled .result) (l .loop .inv .1) (omega arith) (c .scaled .ensures))
+    let u = c .before .before in
+    let t = u .before .before .before .before in
+    (omega arith, saturates-step _ _ (t .before .before .before .loop .i) (t .before .before .before .loop .inv .1) (omega arith) (t .scale .ensures) (u .scale2 .ensures))
 
 same-length : tie.Need-same-length Inv-loop μ-loop
 same-length c = c .before .loop .inv .1 .size
 
 returns : tie.Need-returns Inv-loop μ-loop
-returns c = saturates-end _ _ (c .before .before .before .args .k) (c .before .loop .inv .1) (omega arith)
+returns c =
+    let k = c .before .before .before .args .k in
+    let e : c .before .loop .i ≡ k = omega arith in
+    saturates-end _ _ k (rw e at (c .before .loop .inv .1))
 
 pub saturate-spec : {M : Type 1} → statement M
 saturate-spec =
@@ -55,13 +62,13 @@ saturate-spec =
     (tie.spec
     Inv-loop
     μ-loop
-    mul-n
     loop-holds
-    mul-x
-    slice-read-x
-    scaled-requires
-    mul-palette
-    slice-write-palette
+    mul-scale
+    add-scale
+    scale-requires
+    mul-scale-2
+    add-scale-2
+    scale-requires-2
     add-i
     loop-less
     loop-again

@@ -1,44 +1,33 @@
--- `postprocess::too_vivid` meets its contract. The loop: no double before i is carried out of range. Assumes nothing.
-use Prim.Native.Nat.{_-_, _≤_}
-use mathlib.Core.Path.{_≡_, sym, ap, _∙_}
-use mathlib.Core.Bool.{false, not}
+-- `postprocess::too_vivid` meets its contract. The loop: bad tells whether an entry before i is carried out of range. Assumes nothing.
+use Prim.Native.Nat.{_*_, _-_, _≤_}
+use mathlib.Core.Path.{_≡_, sym, _∙_}
 use native.Mathlib.Omega.{arith}
 use Rattle.base.specs.Places.{any}
-use Rattle.color.specs.Lab.{within}
-use Rattle.checks.proofs.Scans.{none-yet, none-more}
-use Rattle.postprocess.proofs.Tones.{part, vivid, vivid-yes, vivid-no}
+use Rattle.checks.proofs.Scans.{none-yet}
+use Rattle.postprocess.proofs.Tones.{vivid, vivid-more, vivid-any}
 use Rattle.postprocess.proofs.saturation.too_vivid.Statement.{statement}
 use Rattle.postprocess.proofs.saturation.too_vivid.Tie as tie
 
 abbrev Inv-loop : tie.InvT-loop
-Inv-loop palette k beta n i₀ i = (i ≤ n) × (any i (vivid palette beta) ≡ false)
+Inv-loop palette k beta bad₀ i₀ bad i = (i ≤ k) × (bad ≡ any (3 * i) (vivid palette beta))
 
 abbrev μ-loop : tie.MeasureT-loop
-μ-loop palette k beta n i₀ i = n - i
-
-mul-n : tie.Need-mul-n Inv-loop μ-loop
-mul-n c = omega arith
+μ-loop palette k beta bad₀ i₀ bad i = k - i
 
 loop-holds : tie.Need-loop-holds Inv-loop μ-loop
-loop-holds c = (omega arith, none-yet _)
+loop-holds c = (omega arith, sym (none-yet _))
 
-mul-scaled : tie.Need-mul-scaled Inv-loop μ-loop
-mul-scaled c = omega arith
-
-shared-slice-read-scaled : tie.Need-shared-slice-read-scaled Inv-loop μ-loop
-shared-slice-read-scaled c = omega arith
-
-scaled-requires : tie.Need-scaled-requires Inv-loop μ-loop
-scaled-requires c κs = tt
+entry-requires : tie.Need-entry-requires Inv-loop μ-loop
+entry-requires c κs = omega arith
 
 within-requires : tie.Need-within-requires Inv-loop μ-loop
 within-requires c κs = tt
 
-returns : tie.Need-returns Inv-loop μ-loop
-unfolding part
-returns c =
-    let l = c .before .before .before .before .before in
-    vivid-yes _ _ _ (l .loop .i) _ (omega arith) (c .before .within .ensures ∙ ap within (c .before .before .scaled .ensures)) (c .if1 .taken)
+within-requires-2 : tie.Need-within-requires-2 Inv-loop μ-loop
+within-requires-2 c κs = tt
+
+within-requires-3 : tie.Need-within-requires-3 Inv-loop μ-loop
+within-requires-3 c κs = tt
 
 add-i : tie.Need-add-i Inv-loop μ-loop
 add-i c = omega arith
@@ -47,13 +36,15 @@ loop-less : tie.Need-loop-less Inv-loop μ-loop
 loop-less c = omega arith
 
 loop-again : tie.Need-loop-again Inv-loop μ-loop
-unfolding vivid part
 loop-again c =
-    let l = c .before .before .before .before .before in
-    (omega arith, none-more _ _ (l .loop .inv .1) (ap not (sym (c .before .within .ensures ∙ ap within (c .before .before .scaled .ensures))) ∙ c .if1 .left))
+    let w = c .before .before .before .before in
+    (omega arith, vivid-more _ _ _ (w .before .before .before .loop .inv .1) (w .before .entry .ensures) (w .within .ensures) (c .before .before .within2 .ensures) (c .within3 .ensures))
 
-returns-2 : tie.Need-returns-2 Inv-loop μ-loop
-returns-2 c = vivid-no _ _ _ (c .before .loop .i) (omega arith) (c .before .loop .inv .1)
+returns : tie.Need-returns Inv-loop μ-loop
+returns c =
+    let k = c .before .before .before .args .k in
+    let e : c .before .loop .i ≡ k = omega arith in
+    (rw e at (c .before .loop .inv .1)) ∙ sym (vivid-any _ _ k)
 
 pub too-vivid-spec : {M : Type 1} → statement M
 too-vivid-spec =
@@ -61,14 +52,12 @@ too-vivid-spec =
     (tie.spec
     Inv-loop
     μ-loop
-    mul-n
     loop-holds
-    mul-scaled
-    shared-slice-read-scaled
-    scaled-requires
+    entry-requires
     within-requires
-    returns
+    within-requires-2
+    within-requires-3
     add-i
     loop-less
     loop-again
-    returns-2)
+    returns)
