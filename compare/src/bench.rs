@@ -3,10 +3,24 @@
 use crate::call::{self, name, real, signed, Arg, Call, Entry, Lent};
 use crate::cases::{colours, lent_palette, Rng};
 use pixelforge::{color, mask, postprocess};
+use std::cell::RefCell;
 use std::hint::black_box;
 use std::time::{Duration, Instant};
 
 const SHEETS: [&str; 5] = ["silks", "noise", "checkerboard", "single cells", "snake"];
+const ON_SHEETS: [Entry; 7] = [
+    Entry::LabelRegions,
+    Entry::Label4,
+    Entry::BinaryDilation8,
+    Entry::RemoveOrphans,
+    Entry::FixJaggies,
+    Entry::AddOutline,
+    Entry::Run,
+];
+/// The side of the largest sheet: a round goes through as many sheets of a smaller side as have its cells.
+const LARGEST: usize = 512;
+/// How many short calls make a round.
+const MANY: usize = 64;
 const REGION: i32 = 3;
 const DELTA: f64 = 25.0;
 
@@ -28,8 +42,9 @@ fn silk_cell(rng: &mut Rng, y: usize, x: usize, tile: usize) -> i32 {
     }
 }
 
-fn sheet(kind: &str, side: usize) -> Vec<i32> {
-    let rng = &mut Rng(side as u64);
+/// The sheet `number` of a kind: sheets with chance in them differ from one another.
+fn sheet(kind: &str, side: usize, number: usize) -> Vec<i32> {
+    let rng = &mut Rng((side + 1024 * number) as u64);
     let tiles = side / 16;
     let cell = |p: usize| {
         let (y, x) = (p / side, p % side);
@@ -45,10 +60,10 @@ fn sheet(kind: &str, side: usize) -> Vec<i32> {
     (0..side * side).map(cell).collect()
 }
 
-/// The least time of one call: `before` is not timed.
+/// The least time of one round: `before` is not timed.
 fn least(mut before: impl FnMut(), mut timed: impl FnMut()) -> Duration {
     let (start, mut best, mut rounds) = (Instant::now(), Duration::MAX, 0);
-    while rounds < 3 || start.elapsed() < Duration::from_millis(60) {
+    while rounds < 5 || start.elapsed() < Duration::from_millis(80) {
         before();
         let one = Instant::now();
         timed();
@@ -58,43 +73,65 @@ fn least(mut before: impl FnMut(), mut timed: impl FnMut()) -> Duration {
     best
 }
 
-/// The port's time for a call whose changed lists are put back before each round.
-fn port_time(call: &Call) -> Duration {
-    let mut numbers = Vec::new();
-    let mut lists: Vec<Vec<u64>> = Vec::new(); // storage aligned for every kind of element
-    let mut lent: Vec<Lent> = Vec::new();
-    let mut fresh: Vec<(usize, Vec<u8>)> = Vec::new();
-    for arg in &call.args {
-        let (bytes, count): (Vec<u8>, usize) = match arg {
-            Arg::Num(n) => {
-                numbers.push(*n);
-                continue;
-            }
-            Arg::Bytes(l) => (l.clone(), l.len()),
-            Arg::Cells(l) => (l.iter().flat_map(|v| v.to_ne_bytes()).collect(), l.len()),
-            Arg::Words(l) | Arg::Work(l) => (l.iter().flat_map(|v| v.to_ne_bytes()).collect(), l.len()),
-            Arg::Reals(l) => (l.iter().flat_map(|v| v.to_ne_bytes()).collect(), l.len()),
-        };
-        let mut storage = vec![0u64; bytes.len() / 8 + 1];
-        lent.push((storage.as_mut_ptr().cast(), count));
-        lists.push(storage);
-        if !matches!(arg, Arg::Work(_)) {
-            fresh.push((lent.len() - 1, bytes));
+/// A call's numbers and lent lists, and what the lists hold before the call.
+struct Ready {
+    entry: Entry,
+    numbers: Vec<u64>,
+    lent: Vec<Lent>,
+    lists: Vec<Vec<u64>>, // storage aligned for every kind of element
+    fresh: Vec<(usize, Vec<u8>)>,
+}
+
+impl Ready {
+    /// The work area is `work`, which all calls of a round share; every other list is the call's own.
+    fn new(call: &Call, work: &mut Vec<u64>) -> Ready {
+        let mut ready =
+            Ready { entry: call.entry, numbers: vec![], lent: vec![], lists: vec![], fresh: vec![] };
+        for arg in &call.args {
+            let (bytes, count): (Vec<u8>, usize) = match arg {
+                Arg::Num(n) => {
+                    ready.numbers.push(*n);
+                    continue;
+                }
+                Arg::Work(l) => {
+                    work.resize(work.len().max(l.len() / 2 + 1), 0);
+                    ready.lent.push((work.as_mut_ptr().cast(), l.len()));
+                    continue;
+                }
+                Arg::Bytes(l) => (l.clone(), l.len()),
+                Arg::Cells(l) => (l.iter().flat_map(|v| v.to_ne_bytes()).collect(), l.len()),
+                Arg::Words(l) => (l.iter().flat_map(|v| v.to_ne_bytes()).collect(), l.len()),
+                Arg::Reals(l) => (l.iter().flat_map(|v| v.to_ne_bytes()).collect(), l.len()),
+            };
+            let mut storage = vec![0u64; bytes.len() / 8 + 1];
+            ready.fresh.push((ready.lent.len(), bytes));
+            ready.lent.push((storage.as_mut_ptr().cast(), count));
+            ready.lists.push(storage);
+        }
+        ready
+    }
+
+    fn restore(&self) {
+        for (i, bytes) in &self.fresh {
+            // SAFETY: the storage of list i holds at least as many bytes.
+            unsafe { std::ptr::copy_nonoverlapping(bytes.as_ptr(), self.lent[*i].0, bytes.len()) };
         }
     }
-    let restore = || {
-        for (i, bytes) in &fresh {
-            // SAFETY: the storage of list i holds at least as many bytes.
-            unsafe { std::ptr::copy_nonoverlapping(bytes.as_ptr(), lent[*i].0, bytes.len()) };
-        }
-    };
-    let timed = || {
+
+    fn make(&self) {
         // SAFETY: every pointer is that of a list of the length beside it.
-        let answer = unsafe { call::call(call.entry, &lent, &numbers) };
+        let answer = unsafe { call::call(self.entry, &self.lent, &self.numbers) };
         assert_eq!(answer, 0);
-    };
-    let time = least(restore, timed);
-    black_box(&lists);
+    }
+}
+
+/// The port's time for a round of calls, whose changed lists are put back before each round.
+/// All calls of a round have work areas of one length.
+fn port_time(calls: &[Call]) -> Duration {
+    let mut work = Vec::new();
+    let ready: Vec<Ready> = calls.iter().map(|c| Ready::new(c, &mut work)).collect();
+    let time = least(|| ready.iter().for_each(Ready::restore), || ready.iter().for_each(Ready::make));
+    black_box((&ready, &work));
     time
 }
 
@@ -113,7 +150,8 @@ fn num(n: usize) -> Arg {
     Arg::Num(n as u64)
 }
 
-fn sheet_calls(cells: &[i32], side: usize, palette: &[f64]) -> Vec<Call> {
+/// The port's call of an entry on one sheet.
+fn sheet_call(entry: Entry, cells: &[i32], side: usize, palette: &[f64]) -> Call {
     let n = side * side;
     let needed = (side + 2) * (side + 2);
     let lent = |len: usize| {
@@ -124,54 +162,67 @@ fn sheet_calls(cells: &[i32], side: usize, palette: &[f64]) -> Vec<Call> {
     let set = || Arg::Bytes(cells.iter().map(|&c| u8::from(c > 0)).collect());
     let words = |len: usize| Arg::Words(vec![0; len]);
     let work = |len: usize| Arg::Work(vec![0; 8 * len]);
-    let colours = || [Arg::Reals(lent_palette(palette)), num(palette.len() / 3)];
-    let dims = [num(side), num(side)];
-    let line = [num(1), real(0.4), num(0), num(0), num(0)];
-    let call = |entry, parts: Vec<Vec<Arg>>| Call { entry, args: parts.concat() };
-    vec![
-        call(Entry::LabelRegions, vec![vec![lent(n)], dims.to_vec(), vec![words(n), work(n), words(1)]]),
-        call(Entry::Label4, vec![vec![set()], dims.to_vec(), vec![words(n), work(n), words(1)]]),
-        call(
-            Entry::BinaryDilation8,
-            vec![vec![set()], dims.to_vec(), vec![num(3), Arg::Bytes(vec![0; n]), work(n)]],
-        ),
-        call(
-            Entry::RemoveOrphans,
-            vec![
-                vec![lent(n)],
-                dims.to_vec(),
-                colours().to_vec(),
-                vec![signed(REGION), num(5), real(DELTA), work(n), words(1)],
-            ],
-        ),
-        call(Entry::FixJaggies, vec![vec![lent(n)], dims.to_vec(), vec![work(n)]]),
-        call(
-            Entry::AddOutline,
-            vec![
-                vec![lent(needed)],
-                dims.to_vec(),
-                colours().to_vec(),
-                line.to_vec(),
-                vec![num(1), num(0), work(needed), words(5)],
-            ],
-        ),
-        call(
-            Entry::Run,
-            vec![
-                vec![lent(needed)],
-                dims.to_vec(),
-                colours().to_vec(),
-                vec![real(1.1), num(1), signed(REGION), real(DELTA), num(1)],
-                line.to_vec(),
-                vec![num(0), num(0), num(0), num(0), work(needed), words(7)],
-            ],
-        ),
-    ]
+    let colours = || vec![Arg::Reals(lent_palette(palette)), num(palette.len() / 3)];
+    let dims = vec![num(side), num(side)];
+    let line = vec![num(1), real(0.4), num(0), num(0), num(0)];
+    let parts = match entry {
+        Entry::LabelRegions => vec![vec![lent(n)], dims, vec![words(n), work(n), words(1)]],
+        Entry::Label4 => vec![vec![set()], dims, vec![words(n), work(n), words(1)]],
+        Entry::BinaryDilation8 => vec![vec![set()], dims, vec![num(3), Arg::Bytes(vec![0; n]), work(n)]],
+        Entry::RemoveOrphans => {
+            let limits = vec![signed(REGION), num(5), real(DELTA), work(n), words(1)];
+            vec![vec![lent(n)], dims, colours(), limits]
+        }
+        Entry::FixJaggies => vec![vec![lent(n)], dims, vec![work(n)]],
+        Entry::AddOutline => {
+            vec![vec![lent(needed)], dims, colours(), line, vec![num(1), num(0), work(needed), words(5)]]
+        }
+        _ => {
+            let limits = vec![real(1.1), num(1), signed(REGION), real(DELTA), num(1)];
+            let rest = vec![num(0), num(0), num(0), num(0), work(needed), words(7)];
+            vec![vec![lent(needed)], dims, colours(), limits, line, rest]
+        }
+    };
+    Call { entry, args: parts.concat() }
 }
 
-fn rust_sheet_time(entry: Entry, cells: &[i32], side: usize, palette: &[f64]) -> Duration {
-    let wide: Vec<i64> = cells.iter().map(|&c| i64::from(c)).collect();
-    let set: Vec<bool> = cells.iter().map(|&c| c > 0).collect();
+/// The Rust's call of an entry on one sheet.
+fn rust_call(
+    entry: Entry,
+    wide: &[i64],
+    set: &[bool],
+    side: usize,
+    palette: &[f64],
+    config: &postprocess::PostConfig,
+) {
+    let region = i64::from(REGION);
+    match entry {
+        Entry::LabelRegions => {
+            black_box(postprocess::label_regions(wide, side, side));
+        }
+        Entry::Label4 => {
+            black_box(mask::label4(set, side, side));
+        }
+        Entry::BinaryDilation8 => {
+            black_box(mask::binary_dilation8(set, side, side, 3));
+        }
+        Entry::RemoveOrphans => {
+            black_box(postprocess::remove_orphans(wide, side, side, palette, region, 5, DELTA));
+        }
+        Entry::FixJaggies => {
+            black_box(postprocess::fix_jaggies(wide, side, side));
+        }
+        Entry::AddOutline => {
+            black_box(postprocess::add_outline(wide, side, side, palette, "auto", 0.4, true, false)).unwrap();
+        }
+        _ => {
+            black_box(postprocess::run(wide, side, side, palette, config, false, false, 0)).unwrap();
+        }
+    }
+}
+
+/// The Rust's time for a round of calls, one for each sheet.
+fn rust_time(entry: Entry, sheets: &[Vec<i32>], side: usize, palette: &[f64]) -> Duration {
     let config = postprocess::PostConfig {
         saturation_beta: 1.1,
         remove_orphans: true,
@@ -182,38 +233,14 @@ fn rust_sheet_time(entry: Entry, cells: &[i32], side: usize, palette: &[f64]) ->
         outline_darken: 0.4,
         tileset: false,
     };
+    let wide = |cells: &Vec<i32>| cells.iter().map(|&c| i64::from(c)).collect();
+    let set = |cells: &Vec<i32>| cells.iter().map(|&c| c > 0).collect();
+    let both: Vec<(Vec<i64>, Vec<bool>)> = sheets.iter().map(|c| (wide(c), set(c))).collect();
     least(
         || (),
-        || match entry {
-            Entry::LabelRegions => {
-                black_box(postprocess::label_regions(&wide, side, side));
-            }
-            Entry::Label4 => {
-                black_box(mask::label4(&set, side, side));
-            }
-            Entry::BinaryDilation8 => {
-                black_box(mask::binary_dilation8(&set, side, side, 3));
-            }
-            Entry::RemoveOrphans => {
-                black_box(postprocess::remove_orphans(
-                    &wide,
-                    side,
-                    side,
-                    palette,
-                    i64::from(REGION),
-                    5,
-                    DELTA,
-                ));
-            }
-            Entry::FixJaggies => {
-                black_box(postprocess::fix_jaggies(&wide, side, side));
-            }
-            Entry::AddOutline => {
-                black_box(postprocess::add_outline(&wide, side, side, palette, "auto", 0.4, true, false))
-                    .unwrap();
-            }
-            _ => {
-                black_box(postprocess::run(&wide, side, side, palette, &config, false, false, 0)).unwrap();
+        || {
+            for (wide, set) in &both {
+                rust_call(entry, wide, set, side, palette, &config);
             }
         },
     )
@@ -229,7 +256,7 @@ fn colour_times() {
     let palette = colours(rng, 256);
     let pixels = lab[..3 * 4096].to_vec();
     let time = |entry, args: Vec<Arg>, count: usize, what: &str, rust: &dyn Fn()| {
-        show(entry, what, count, port_time(&Call { entry, args }), least(|| (), rust));
+        show(entry, what, count, port_time(&[Call { entry, args }]), least(|| (), rust));
     };
     let reals = |len: usize| Arg::Reals(vec![0.0; len]);
     time(Entry::Rgb8ToLab, vec![Arg::Bytes(rgb.clone()), reals(3 * n)], n, "65536 colours", &|| {
@@ -271,20 +298,43 @@ fn colour_times() {
             black_box(color::palette_distance_matrix(&palette));
         },
     );
-    time(
-        Entry::ApplySaturation,
-        vec![Arg::Reals(palette.clone()), num(256), real(1.0)],
-        256,
-        "256 colours",
-        &|| {
-            let mut palette = palette.clone();
-            postprocess::apply_saturation(&mut palette, 1.0);
-            black_box(palette);
+    saturation_times(&palette);
+    hex_times();
+}
+
+/// `apply_saturation` on many palettes, since one takes little more than the clock does.
+/// The palettes of either side are put back before each round.
+fn saturation_times(palette: &[f64]) {
+    let call = || Call {
+        entry: Entry::ApplySaturation,
+        args: vec![Arg::Reals(palette.to_vec()), num(256), real(0.9)],
+    };
+    let calls: Vec<Call> = (0..MANY).map(|_| call()).collect();
+    let palettes = RefCell::new(vec![palette.to_vec(); MANY]);
+    let rust = least(
+        || palettes.borrow_mut().iter_mut().for_each(|p| p.copy_from_slice(palette)),
+        || palettes.borrow_mut().iter_mut().for_each(|p| postprocess::apply_saturation(black_box(p), 0.9)),
+    );
+    show(Entry::ApplySaturation, "256 colours", 256 * MANY, port_time(&calls), rust);
+}
+
+/// `hex_to_rgb8`, as often.
+fn hex_times() {
+    let text = "#12aBcd";
+    let call = || Call {
+        entry: Entry::HexToRgb8,
+        args: vec![Arg::Bytes(text.as_bytes().to_vec()), Arg::Bytes(vec![0; 3])],
+    };
+    let calls: Vec<Call> = (0..MANY).map(|_| call()).collect();
+    let rust = least(
+        || (),
+        || {
+            for _ in 0..MANY {
+                black_box(color::hex_to_rgb8(black_box(text))).unwrap();
+            }
         },
     );
-    time(Entry::HexToRgb8, vec![Arg::Bytes(b"#12aBcd".to_vec()), Arg::Bytes(vec![0; 3])], 1, "one", &|| {
-        black_box(color::hex_to_rgb8(black_box("#12aBcd"))).unwrap();
-    });
+    show(Entry::HexToRgb8, "one", MANY, port_time(&calls), rust);
 }
 
 pub fn all() {
@@ -294,11 +344,13 @@ pub fn all() {
     let palette: Vec<f64> =
         (0..8).flat_map(|i| [20.0 + 5.0 * f64::from(i), f64::from(i * 3 % 8), 2.0]).collect();
     for side in [64, 128, 256, 512] {
+        let count = (LARGEST / side) * (LARGEST / side);
         for kind in SHEETS {
-            let cells = sheet(kind, side);
-            for call in sheet_calls(&cells, side, &palette) {
-                let rust = rust_sheet_time(call.entry, &cells, side, &palette);
-                show(call.entry, &format!("{kind} {side}"), side * side, port_time(&call), rust);
+            let sheets: Vec<Vec<i32>> = (0..count).map(|i| sheet(kind, side, i)).collect();
+            for entry in ON_SHEETS {
+                let calls: Vec<Call> = sheets.iter().map(|c| sheet_call(entry, c, side, &palette)).collect();
+                let rust = rust_time(entry, &sheets, side, &palette);
+                show(entry, &format!("{kind} {side}"), LARGEST * LARGEST, port_time(&calls), rust);
             }
         }
     }
