@@ -1,3 +1,1 @@
 pub mod Lab
-pub mod Hex
-pub mod Entries

@@ -15,8 +15,8 @@ use lib.ListN.{length, take}
 use Rattle.base.specs.declared.Filling.{Filling}
 use Rattle.base.specs.Places.{any}
 use Rattle.base.specs.Refusals.{Row, refusal, unless, filling}
-use Rattle.base.proofs.Counting.{case, clash, or-left, or-right, eqb-yes, any-same}
-use Rattle.color.proofs.Answers.{refused, passed, done, neither}
+use Rattle.base.proofs.Counting.{case, clash, or-left, or-right, neither, eqb-yes, any-same}
+use Rattle.base.proofs.Refusing.{refused, passed, done}
 use Rattle.rules.specs.declared.Cleaning.the-variants as answers
 use Rattle.rules.specs.Regions.{at}
 use Rattle.rules.specs.Palette.{Palette, paletteOf, outOfRange, between}

@@ -7,8 +7,8 @@ use Rattle.base.specs.Outputs.{filled}
 use Rattle.base.specs.Refusals.{refusal, unless}
 use Rattle.base.specs.declared.Filling.{Filling}
 use Rattle.base.specs.declared.Filling.the-variants as fillings
-use Rattle.color.specs.declared.hex.Hex.{Hex}
-use Rattle.color.specs.declared.hex.Hex.the-variants as hexes
+use Rattle.hex.specs.declared.Hex.{Hex}
+use Rattle.hex.specs.declared.Hex.the-variants as hexes
 use Rattle.rules.specs.declared.LineIndex.{LineIndex}
 use Rattle.rules.specs.declared.LineIndex.the-variants.{Nothing, Entry}
 use Rattle.rules.specs.declared.Facts.{Facts}

@@ -16,8 +16,8 @@ ghost use mathlib.Core.List.{[], _∷_};
 ghost use lib.Dec.{ltb};
 ghost use lib.ListN.{length};
 ghost use Rattle.base.specs.Refusals.{row, refusal, unless, filling};
-ghost use Rattle.color.specs.Entries.{rgb8ToLabRows, rgb8ToLabOut, labToRgb8Rows, labToRgb8Out, deltaERows, deltaEOut, matrixRows, matrixOut, nearestRows, nearestOut};
-ghost use Rattle.color.specs.Hex.{hexToRgb8};
+ghost use Rattle.color_lists.specs.Entries.{rgb8ToLabRows, rgb8ToLabOut, labToRgb8Rows, labToRgb8Out, deltaERows, deltaEOut, matrixRows, matrixOut, nearestRows, nearestOut};
+ghost use Rattle.hex.specs.Hex.{hexToRgb8};
 ghost use Rattle.rules.specs.Palette.{paletteOf};
 ghost use Rattle.rules.specs.Masks.{isSet, regionsAnswer, regionsLabels, maskAnswer, maskLabels, dilationAnswer, dilationOut};
 ghost use Rattle.rules.specs.Entries.{orphansAnswer, orphansCells, jaggiesAnswer, jaggiesCells, outlineAnswer, outlineCells, outlinePalette, saturationAnswer, saturationPalette, runAnswer, runCells, runPalette};
@@ -31,7 +31,7 @@ pub extern "C" fn silk_rgb8_to_lab(rgb: &[u8], out: &mut [f64]) -> u32
     ensures { λ r. ⌜ r ≡ code (done (filling (refusal (rgb8ToLabRows (now (rgb .entry)) (length (now (out .entry))))))) ⌝ }
     ensures { λ _. ⌜ now (out .exit) ≡ rgb8ToLabOut (now (rgb .entry)) (now (out .entry)) ⌝ }
 {
-    number(color::rgb8_to_lab(rgb, out))
+    number(color_lists::rgb8_to_lab(rgb, out))
 }
 
 // Colours of CIELAB as colours of sRGB.
@@ -40,7 +40,7 @@ pub extern "C" fn silk_lab_to_rgb8(lab: &[f64], out: &mut [u8]) -> u32
     ensures { λ r. ⌜ r ≡ code (done (filling (refusal (labToRgb8Rows (now (lab .entry)) (length (now (out .entry))))))) ⌝ }
     ensures { λ _. ⌜ now (out .exit) ≡ labToRgb8Out (now (lab .entry)) (now (out .entry)) ⌝ }
 {
-    number(color::lab_to_rgb8(lab, out))
+    number(color_lists::lab_to_rgb8(lab, out))
 }
 
 // The distances of the colours of two lists, pair by pair.
@@ -49,7 +49,7 @@ pub extern "C" fn silk_delta_e(a: &[f64], b: &[f64], out: &mut [f64]) -> u32
     ensures { λ r. ⌜ r ≡ code (done (filling (refusal (deltaERows (now (a .entry)) (now (b .entry)) (length (now (out .entry))))))) ⌝ }
     ensures { λ _. ⌜ now (out .exit) ≡ deltaEOut (now (a .entry)) (now (b .entry)) (now (out .entry)) ⌝ }
 {
-    number(color::delta_e(a, b, out))
+    number(color_lists::delta_e(a, b, out))
 }
 
 // The index of the nearest palette entry for each pixel.
@@ -58,7 +58,7 @@ pub extern "C" fn silk_nearest_index(pixels: &[f64], palette: &[f64], out: &mut 
     ensures { λ r. ⌜ r ≡ code (done (filling (refusal (nearestRows (now (pixels .entry)) (now (palette .entry)) (length (now (out .entry))))))) ⌝ }
     ensures { λ _. ⌜ now (out .exit) ≡ nearestOut (now (pixels .entry)) (now (palette .entry)) (now (out .entry)) ⌝ }
 {
-    number(color::nearest_index(pixels, palette, out))
+    number(color_lists::nearest_index(pixels, palette, out))
 }
 
 // The distances of all colours of a palette from each other, row after row.
@@ -67,7 +67,7 @@ pub extern "C" fn silk_palette_distance_matrix(palette: &[f64], out: &mut [f64])
     ensures { λ r. ⌜ r ≡ code (done (filling (refusal (matrixRows (now (palette .entry)) (length (now (out .entry))))))) ⌝ }
     ensures { λ _. ⌜ now (out .exit) ≡ matrixOut (now (palette .entry)) (now (out .entry)) ⌝ }
 {
-    number(color::palette_distance_matrix(palette, out))
+    number(color_lists::palette_distance_matrix(palette, out))
 }
 
 // The colour that a text names, as three bytes.
@@ -79,7 +79,7 @@ pub extern "C" fn silk_hex_to_rgb8(text: &[u8], out: &mut [u8]) -> u32
     if out.len() < 3 {
         return 2;
     }
-    let answer = color::hex_to_rgb8(text);
+    let answer = hex::hex_to_rgb8(text);
     tell_colour(answer, out)
 }
 

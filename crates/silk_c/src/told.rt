@@ -1,6 +1,6 @@
 // What C gets of an entry's answer: its number, and the facts at the front of a list.
 use base::Filling;
-use color::Hex;
+use hex::Hex;
 use rules::Cleaning;
 use rules::Facts;
 use rules::Labelling;

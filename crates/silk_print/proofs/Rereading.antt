@@ -13,10 +13,10 @@ use lib.Seq.{drop-append-seam}
 use borrow.Author.Tests.{ltb-true, ltb-false, eq-eqb, ne-eqb}
 use Rattle.base.specs.Places.{any}
 use Rattle.base.proofs.Counting.{case}
-use Rattle.color.specs.Hex.{space, mark, skip, trim, digit, allDigits, pair, sixDigits, hexToRgb8}
+use Rattle.hex.specs.Hex.{space, mark, skip, trim, digit, allDigits, pair, sixDigits, hexToRgb8}
 use Rattle.color.specs.declared.Rgb8.{Rgb8}
-use Rattle.color.specs.declared.hex.Hex.the-variants.{Colour}
-use Rattle.color.proofs.Digits.{space-no, digit-decimal, digit-small}
+use Rattle.hex.specs.declared.Hex.the-variants.{Colour}
+use Rattle.hex.proofs.Digits.{space-no, digit-decimal, digit-small}
 use Rattle.silk_text.specs.Reader.{got, chain, _>>=_, _>>_, give, codes, bytes, newline, front, run, inLine, isDigit, value, proper, numberOf, number, natural, minus, negative, atMinus, cell, cellAt}
 use Rattle.silk_text.specs.Format.{hexOf, hexLine, colourLine}
 use Rattle.silk_print.specs.Claims.{InBytes}

@@ -14,7 +14,7 @@ use Rattle.base.proofs.Counting.{case, left, right, clash}
 use Rattle.silk_text.specs.Reader.{got, refused, chain, _>>=_, bytes, front, run, inLine, isDigit, value, proper, numberOf, number, atMinus, line, numberLine, _>>_, give, newline}
 use Rattle.silk_text.specs.Format.{hexOf, hexLine}
 use Rattle.silk_text.specs.Answers.{Decimal}
-use Rattle.color.specs.Hex.{hexToRgb8}
+use Rattle.hex.specs.Hex.{hexToRgb8}
 use Rattle.silk_text.proofs.Chaining.{chain-first}
 
 -- ---- digits

@@ -8,11 +8,11 @@ use lib.IntN.{ℤ, pos}
 use lib.Ieee.{Float}
 use Rattle.base.specs.Refusals.{row, refusal, unless}
 use Rattle.base.specs.Doubles.{_⊘_, decimal}
-use Rattle.color.specs.Hex.{hexToRgb8}
+use Rattle.hex.specs.Hex.{hexToRgb8}
 use Rattle.color.specs.Lab.{rgb8ToLab}
 use Rattle.color.specs.declared.Rgb8.{Rgb8}
-use Rattle.color.specs.declared.hex.Hex.{Hex}
-use Rattle.color.specs.declared.hex.Hex as hex
+use Rattle.hex.specs.declared.Hex.{Hex}
+use Rattle.hex.specs.declared.Hex as hex
 use Rattle.rules.specs.declared.Outline.{Outline}
 use Rattle.rules.specs.declared.Outline as outline
 use Rattle.silk_text.specs.declared.head.Wish.{Wish}

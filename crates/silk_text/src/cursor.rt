@@ -7,8 +7,8 @@ ghost use Rattle.silk_text.specs.Reader.{bytes, front, inLine, isDigit, 
 ghost use Rattle.silk_text.specs.Answers.{stepped, numbered, switched, celled, coloured, Decimal};
 ghost use Rattle.silk_text.specs.Format.{hexLine};
 use color::Rgb8;
-use color::hex::Hex;
-use color::hex::hex_to_rgb8;
+use hex::Hex;
+use hex::hex_to_rgb8;
 
 // The place of the next byte.
 pub struct Cursor {

@@ -1,5 +1,5 @@
 // Replays the stored answers of the entries over lists of colours and of the one that reads hex. Prints each case that differs, and how many cases each file has.
-use color::Hex;
+use hex::Hex;
 use replay::Stored;
 use replay::Verdict;
 use replay::answered;
@@ -20,7 +20,7 @@ fn rgb8_to_lab(numbers: &[u64], at: usize) -> Verdict {
     let o = Stored::at(numbers, a.end());
     let rgb8 = lend_bytes(numbers, a, &mut bytes);
     let out = lend_doubles(numbers, o, &mut doubles);
-    let answer = filling_number(color::rgb8_to_lab(rgb8, out));
+    let answer = filling_number(color_lists::rgb8_to_lab(rgb8, out));
     answered(numbers, o.end(), answer)
         .bytes(numbers, a, rgb8)
         .doubles(numbers, o, out)
@@ -33,7 +33,7 @@ fn lab_to_rgb8(numbers: &[u64], at: usize) -> Verdict {
     let o = Stored::at(numbers, a.end());
     let lab = lend_doubles(numbers, a, &mut doubles);
     let out = lend_bytes(numbers, o, &mut bytes);
-    let answer = filling_number(color::lab_to_rgb8(lab, out));
+    let answer = filling_number(color_lists::lab_to_rgb8(lab, out));
     answered(numbers, o.end(), answer)
         .doubles(numbers, a, lab)
         .bytes(numbers, o, out)
@@ -49,7 +49,7 @@ fn delta_e(numbers: &[u64], at: usize) -> Verdict {
     let a = lend_doubles(numbers, s, &mut first);
     let b = lend_doubles(numbers, t, &mut second);
     let out = lend_doubles(numbers, o, &mut third);
-    let answer = filling_number(color::delta_e(a, b, out));
+    let answer = filling_number(color_lists::delta_e(a, b, out));
     answered(numbers, o.end(), answer)
         .doubles(numbers, s, a)
         .doubles(numbers, t, b)
@@ -66,7 +66,7 @@ fn nearest_index(numbers: &[u64], at: usize) -> Verdict {
     let pixels = lend_doubles(numbers, s, &mut first);
     let palette = lend_doubles(numbers, t, &mut second);
     let out = lend_cells(numbers, o, &mut cells);
-    let answer = filling_number(color::nearest_index(pixels, palette, out));
+    let answer = filling_number(color_lists::nearest_index(pixels, palette, out));
     answered(numbers, o.end(), answer)
         .doubles(numbers, s, pixels)
         .doubles(numbers, t, palette)
@@ -80,7 +80,7 @@ fn palette_distance_matrix(numbers: &[u64], at: usize) -> Verdict {
     let o = Stored::at(numbers, a.end());
     let palette = lend_doubles(numbers, a, &mut first);
     let out = lend_doubles(numbers, o, &mut second);
-    let answer = filling_number(color::palette_distance_matrix(palette, out));
+    let answer = filling_number(color_lists::palette_distance_matrix(palette, out));
     answered(numbers, o.end(), answer)
         .doubles(numbers, a, palette)
         .doubles(numbers, o, out)
@@ -97,7 +97,7 @@ fn hex_out(text: &[u8], out: &mut [u8]) -> u8 {
     if out.len() < 3 {
         return 2;
     }
-    match color::hex_to_rgb8(text) {
+    match hex::hex_to_rgb8(text) {
         Hex::Refused(n) => n,
         Hex::Colour(c) => {
             put(out, 0, c.r);

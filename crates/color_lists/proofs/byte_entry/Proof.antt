@@ -1,0 +1,37 @@
+-- `byte_entry` meets its contract. Assumes nothing.
+use mathlib.Core.Path.{refl}
+use borrow.Author.Needs.{needs}
+use Rattle.color_lists.specs.Entries.{byteEntry}
+use Rattle.color_lists.proofs.byte_entry.Statement.{statement}
+use Rattle.color_lists.proofs.byte_entry.Tie as tie
+
+mul-t3 : tie.Need-mul-t3
+mul-t3 c = search needs
+
+shared-slice-read-t5 : tie.Need-shared-slice-read-t5
+shared-slice-read-t5 c = search needs
+
+mul-t6 : tie.Need-mul-t6
+mul-t6 c = search needs
+
+add-t7 : tie.Need-add-t7
+add-t7 c = search needs
+
+shared-slice-read-t9 : tie.Need-shared-slice-read-t9
+shared-slice-read-t9 c = search needs
+
+mul-t10 : tie.Need-mul-t10
+mul-t10 c = search needs
+
+add-t11 : tie.Need-add-t11
+add-t11 c = search needs
+
+shared-slice-read-t13 : tie.Need-shared-slice-read-t13
+shared-slice-read-t13 c = search needs
+
+returns : tie.Need-returns
+unfolding byteEntry
+returns c = refl
+
+pub byte-entry-spec : {M : Type 1} → statement M
+byte-entry-spec = tie.close (tie.spec mul-t3 shared-slice-read-t5 mul-t6 add-t7 shared-slice-read-t9 mul-t10 add-t11 shared-slice-read-t13 returns)

@@ -1,0 +1,45 @@
+-- `rgb8_to_lab` meets its contract: it writes if nothing is refused, and else nothing. Assumes nothing.
+use mathlib.Core.Path.{sym, _∙_}
+use borrow.Author.Needs.{needs}
+use Rattle.color_lists.specs.Entries.{rgb8ToLabOut}
+use Rattle.color_lists.proofs.Answers.{wrote, kept, rgb8-to-lab-room}
+use Rattle.color_lists.proofs.rgb8_to_lab.Statement.{statement}
+use Rattle.color_lists.proofs.rgb8_to_lab.Tie as tie
+
+rgb8-to-lab-answer-requires : tie.Need-rgb8-to-lab-answer-requires
+rgb8-to-lab-answer-requires c κs = tt
+
+enum-told : tie.Need-enum-told
+enum-told c = search needs
+
+decode-table-requires : tie.Need-decode-table-requires
+decode-table-requires c κs = tt
+
+slice-aggregate-fill-lab : tie.Need-slice-aggregate-fill-lab
+slice-aggregate-fill-lab c = search needs
+
+fill-lab-requires : tie.Need-fill-lab-requires
+fill-lab-requires c κs =
+    let d = c .before .before .before in
+    (c .before .before .decode-table .ensures, rgb8-to-lab-room _ _ (sym (d .enum-told .given .1) ∙ d .before .before .rgb8-to-lab-answer .ensures))
+
+enum-told-2 : tie.Need-enum-told-2
+enum-told-2 c = search needs
+
+same-length : tie.Need-same-length
+same-length c = search needs
+
+returns : tie.Need-returns
+unfolding rgb8ToLabOut
+returns c =
+    let told = c .before .before .before .before .before .before .before .before .rgb8-to-lab-answer .ensures in
+    (told, c .before .before .fill-lab .ensures ∙ wrote _ _ _ (sym (c .before .before .before .before .before .before .enum-told .given .1) ∙ told))
+
+returns-2 : tie.Need-returns-2
+unfolding rgb8ToLabOut
+returns-2 c =
+    let told = c .before .before .rgb8-to-lab-answer .ensures in
+    (told, kept _ _ _ _ (sym (c .enum-told2 .given .1) ∙ told))
+
+pub rgb8-to-lab-spec : {M : Type 1} → statement M
+rgb8-to-lab-spec = tie.close (tie.spec rgb8-to-lab-answer-requires enum-told decode-table-requires slice-aggregate-fill-lab fill-lab-requires enum-told-2 same-length returns returns-2)
