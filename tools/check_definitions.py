@@ -5,7 +5,7 @@
 
 writes a crate to the folder OUT whose one theorem, computed by the checker, says that cleaning, corners, outline and run
 of the definitions give what the model gives, row by row. Prove it by listing it in crates.txt as
-`NAME: base roots color rules` and `rt check NAME`.
+`NAME: base roots channel color rules` and `rt check NAME`.
 """
 import os
 import random
@@ -141,8 +141,7 @@ use mathlib.Core.List.{List, [], _∷_, map}
 use lib.IntN.{ℤ, pos, negsuc}
 use lib.Ieee.{Float, binary64, ofBits, toBits}
 use Rattle.base.specs.Outputs
-use Rattle.color.specs.Doubles.{decimal}
-use Rattle.color.specs.Channel
+use Rattle.channel.specs.Channel
 use Rattle.color.specs.Lab
 use Rattle.rules.specs.declared.Outline.{Outline as How}
 use Rattle.rules.specs.declared.Outline.the-variants.{None, Auto, Rgb}
