@@ -1,3 +1,4 @@
 pub mod Scans
 pub mod Signs
 pub mod Rows
+pub mod Answers

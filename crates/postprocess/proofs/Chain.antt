@@ -28,8 +28,8 @@ use Rattle.rules.proofs.Opacity.{Alike, trans, tidied-alike, cut-alike, pads-sa
 use Rattle.orphans.specs.Entry.{Fit}
 use Rattle.outline.specs.Drawing.{Drew}
 use Rattle.outline.proofs.Refusing.{needed-least, past-3, past-8, not-refused}
-use Rattle.postprocess.proofs.Answers.{refused, granted}
-use Rattle.postprocess.proofs.Refusing.{Call, sheet, allowed, padding, judged, Granted, granting}
+use Rattle.checks.proofs.Answers.{refused, granted}
+use Rattle.run_checks.proofs.Refusing.{Call, sheet, allowed, padding, judged, Granted, granting}
 use Rattle.postprocess.proofs.Fronts.{Stands, stands-start, stands-size, stands-sheet, stands-next}
 use Rattle.postprocess.proofs.Holding.{area-same, Holds, reads, keeps, sized}
 use Rattle.postprocess.proofs.Indices.{Named, named, row-clear, tidied-named, cut-named}

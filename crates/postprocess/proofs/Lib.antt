@@ -1,11 +1,6 @@
-pub mod Answers
 pub mod Chain
-pub mod Conditions
 pub mod Fronts
 pub mod Holding
 pub mod Indices
 pub mod Lines
-pub mod Margins
-pub mod Refusing
 pub mod Switched
-pub mod Tones

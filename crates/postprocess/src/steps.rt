@@ -1,5 +1,4 @@
 // The steps of `run`, each made as it is switched on.
-use crate::saturation::saturate;
 use jaggies::trim_sheet;
 use orphans::clean_sheet;
 use outline::add_outline;
@@ -8,6 +7,7 @@ use rules::Facts;
 use rules::LineIndex;
 use rules::Outlining;
 use rules::PostConfig;
+use saturation::scaling::saturate;
 ghost use mathlib.Core.Path.{_≡_};
 ghost use mathlib.Core.Bool.{true, false, cond, _&&_};
 ghost use mathlib.Core.Option.{none};

@@ -244,7 +244,7 @@ pub extern "C" fn silk_apply_saturation(palette: &mut [f64], k: usize, beta: f64
     ensures { λ r. ⌜ r ≡ code (done (saturationAnswer (paletteOf (now (palette .entry)) k) beta)) ⌝ }
     ensures { λ _. ⌜ now (palette .exit) ≡ saturationPalette (paletteOf (now (palette .entry)) k) beta ⌝ }
 {
-    number(postprocess::apply_saturation(palette, k, beta))
+    number(saturation::apply_saturation(palette, k, beta))
 }
 
 // Beta, or NaN where the kind of outline is out of range.

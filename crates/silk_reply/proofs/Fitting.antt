@@ -16,7 +16,7 @@ use Rattle.rules.specs.Sheet.{over}
 use Rattle.rules.specs.declared.Facts.{Facts}
 use Rattle.rules.specs.declared.Processing.the-variants.{Processed, Refused}
 use Rattle.postprocess.proofs.Chain.{left}
-use Rattle.postprocess.proofs.Refusing.{Call, sheet, judged}
+use Rattle.run_checks.proofs.Refusing.{Call, sheet, judged}
 use Rattle.silk_print.specs.Print.{roomFor, printable}
 
 -- ---- the room

@@ -11,7 +11,7 @@ use Rattle.rules.specs.declared.Facts.{Facts}
 use Rattle.rules.specs.declared.Processing.{Processing}
 use Rattle.rules.specs.declared.Processing.the-variants.{Processed, Refused}
 use Rattle.postprocess.proofs.Chain.{Met}
-use Rattle.postprocess.proofs.Refusing.{Call}
+use Rattle.run_checks.proofs.Refusing.{Call}
 use Rattle.silk_text.specs.Answers.{readInto, lent}
 use Rattle.silk_text.specs.Format.{File, parse}
 use Rattle.silk_print.specs.Print.{resultText, refusalText, resultFits, printedAnswer, printedBuffer}

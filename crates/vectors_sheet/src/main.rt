@@ -262,7 +262,7 @@ fn apply_saturation(numbers: &[u64], at: usize) -> Verdict {
     let k = number(numbers, p.end()) as usize;
     let beta = double(number(numbers, past(p.end(), 1)));
     let palette = lend_doubles(numbers, p, &mut first);
-    let answer = filling_number(postprocess::apply_saturation(palette, k, beta));
+    let answer = filling_number(saturation::apply_saturation(palette, k, beta));
     answered(numbers, past(p.end(), 2), answer).doubles(numbers, p, palette)
 }
 

@@ -8,7 +8,7 @@ use Rattle.base.specs.Refusals.{filling}
 use Rattle.rules.specs.Palette.{paletteOf}
 use Rattle.rules.specs.Run.{padAllowed}
 use Rattle.checks.proofs.Rows.{refused-by, passed}
-use Rattle.postprocess.proofs.Refusing.{Call, sheet, allowed, judged}
+use Rattle.run_checks.proofs.Refusing.{Call, sheet, allowed, judged}
 use Rattle.postprocess.proofs.Holding.{Holds, sized}
 use Rattle.postprocess.proofs.Chain.{Held, first, cut, line, met-refused, in-doubles, toned-holds, first-fit, first-passes, first-holds, trim-room, cut-holds, never-refused, line-told, line-holds, second-fit, same-doubles, met-processed}
 use Rattle.postprocess.proofs.run.Statement.{statement}
