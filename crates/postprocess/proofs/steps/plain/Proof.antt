@@ -1,0 +1,10 @@
+-- `postprocess::steps::plain` meets its contract. Assumes nothing.
+use mathlib.Core.Path.{refl}
+use Rattle.postprocess.proofs.steps.plain.Statement.{statement}
+use Rattle.postprocess.proofs.steps.plain.Tie as tie
+
+returns : tie.Need-returns
+returns c = refl
+
+pub plain-spec : {M : Type 1} → statement M
+plain-spec = tie.close (tie.spec returns)
