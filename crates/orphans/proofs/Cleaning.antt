@@ -12,8 +12,9 @@ use Rattle.rules.specs.Pass.{Rule, State, Cleaned, fresh, clean}
 use Rattle.rules.proofs.Runs.{clean-go, clean-stop}
 use Rattle.grid.specs.Planes.{plane, cellOf, cellsOf}
 use Rattle.grid.specs.Filling.{Sized}
-use Rattle.orphans.specs.Passing.{stateOf, Indexed, Wiped, Passed, CleanedTo}
-use Rattle.orphans.proofs.Desks.{table-same}
+use Rattle.verdicts.specs.Judging.{stateOf, Indexed}
+use Rattle.orphans.specs.Passing.{Wiped, Passed, CleanedTo}
+use Rattle.verdicts.proofs.Desks.{table-same}
 
 -- ---- a sheet with no cell frozen
 

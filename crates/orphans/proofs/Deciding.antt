@@ -14,10 +14,11 @@ use Rattle.rules.specs.Masks.{regions}
 use Rattle.grid.specs.Steps.{hood}
 use Rattle.grid.specs.Planes.{plane, cellsOf}
 use Rattle.grid.proofs.Planes.{plane-same, plane-else, plane-other}
-use Rattle.orphans.specs.Polling.{Desk, Kept}
-use Rattle.orphans.specs.Passing.{ruleOf, stateOf, Indexed, ruled, Judged, Decided}
-use Rattle.orphans.proofs.Desks.{table-same, kept-none, kept-and, kept-store, cells-kept, desk-lead}
-use Rattle.orphans.proofs.Verdicts.{in-range}
+use Rattle.verdicts.specs.Polling.{Desk, Kept}
+use Rattle.verdicts.specs.Judging.{ruleOf, stateOf, Indexed, ruled, Judged}
+use Rattle.orphans.specs.Passing.{Decided}
+use Rattle.verdicts.proofs.Desks.{table-same, kept-none, kept-and, kept-store, cells-kept, desk-lead}
+use Rattle.verdicts.proofs.Verdicts.{in-range}
 
 pub indexed-kept : {n k : ℕ} {a b : List ℕ} → Kept n a b → Indexed n k a → Indexed n k b
 indexed-kept u i = record { few = i .few; below = λ q l. rw (u .same 0 q (omega arith) l) (i .below q l) }

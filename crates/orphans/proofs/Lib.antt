@@ -1,9 +1,3 @@
-pub mod Choosing
-pub mod Regions
-pub mod Desks
-pub mod Nearby
-pub mod Votes
-pub mod Verdicts
 pub mod Painting
 pub mod Deciding
 pub mod Passes

@@ -23,11 +23,12 @@ use Rattle.grid.specs.Planes.{plane, cellOf, cellsOf, Labelled}
 use Rattle.grid.specs.Filling as Filling
 use Rattle.grid.specs.Filling.{Sized}
 use Rattle.grid.proofs.Planes.{cells-size, cells-at}
-use Rattle.orphans.specs.Polling.{Desk, Kept}
-use Rattle.orphans.specs.Passing.{ruleOf, stateOf, code, Indexed, ruled, Decided, numberOf, numberAt, paintBy, iceBy, Coloured, Wiped, Passed}
-use Rattle.orphans.proofs.Regions.{regions-le, label-in, labelled, root-lead}
+use Rattle.verdicts.specs.Polling.{Desk, Kept}
+use Rattle.verdicts.specs.Judging.{ruleOf, stateOf, code, Indexed, ruled}
+use Rattle.orphans.specs.Passing.{Decided, numberOf, numberAt, paintBy, iceBy, Coloured, Wiped, Passed}
+use Rattle.verdicts.proofs.Regions.{regions-le, label-in, labelled, root-lead}
 use Rattle.grid.specs.declared.Tally.{Tally}
-use Rattle.orphans.proofs.Desks.{table-same, cells-kept, index-is, symmetric, desk-ready, desk-kept}
+use Rattle.verdicts.proofs.Desks.{table-same, cells-kept, index-is, symmetric, desk-ready, desk-kept}
 use Rattle.orphans.proofs.Deciding.{indexed-kept, state-kept}
 
 -- ---- numbers and verdicts

@@ -29,10 +29,11 @@ use Rattle.grid.specs.Steps.{hood}
 use Rattle.grid.specs.Planes.{plane, paintOf, cellsOf, Painted}
 use Rattle.grid.specs.Tiles.{repaint}
 use Rattle.grid.proofs.Planes.{cells-paint, painted-alike}
-use Rattle.orphans.specs.Choice.{apart}
-use Rattle.orphans.specs.Passing.{ruleOf, stateOf, Indexed, CleanedTo}
+use Rattle.verdicts.specs.Choice.{apart}
+use Rattle.verdicts.specs.Judging.{ruleOf, stateOf, Indexed}
+use Rattle.orphans.specs.Passing.{CleanedTo}
 use Rattle.orphans.specs.Entry.{limitsAt, Fit}
-use Rattle.orphans.proofs.Desks.{table-same}
+use Rattle.verdicts.proofs.Desks.{table-same}
 use Rattle.orphans.proofs.Alike.{Same, clean-alike}
 
 -- ---- transparent cells

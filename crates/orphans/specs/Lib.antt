@@ -1,4 +1,2 @@
-pub mod Choice
-pub mod Polling
 pub mod Passing
 pub mod Entry

@@ -5,7 +5,8 @@ use Prim.Native.Nat.{_-_, _*_}
 use native.Mathlib.Omega.{arith}
 use borrow.Author.Tests.{not-true, not-false}
 use Rattle.grid.proofs.Places.{area}
-use Rattle.orphans.specs.Passing.{ruleOf, Passed}
+use Rattle.verdicts.specs.Judging.{ruleOf}
+use Rattle.orphans.specs.Passing.{Passed}
 use Rattle.orphans.proofs.Cleaning.{thawed-known, Going, going-start, going-on, going-stops, going-ends, same-size, cleaned-from}
 use Rattle.orphans.proofs.clean_planes.Statement.{statement}
 use Rattle.orphans.proofs.clean_planes.Tie as tie

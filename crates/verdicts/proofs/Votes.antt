@@ -1,0 +1,189 @@
+-- Cells that are asked for their vote, one after the other. Assumes nothing.
+use Prim.Native.Nat.{ℕ, _+_, _*_, _≤_, _<_}
+use mathlib.Core.Path.{_≡_, refl, sym, ap, _∙_}
+use mathlib.Core.Logic.{_⊎_, inl, inr, ⊎-elim}
+use mathlib.Core.Bool.{true, false}
+use mathlib.Core.List.{List}
+use mathlib.Core.Option.{Option, none, some}
+use native.Mathlib.Nat.{not-suc-le-zero}
+use native.Mathlib.Decide.{ℕ-discrete}
+use native.Mathlib.Omega.{arith}
+use borrow.Author.Tests.{eq-eqb, ne-eqb}
+use lib.Dec.{eqb}
+use lib.ListN.{length, getD, set, length-set, replicate, length-replicate, getD-replicate}
+use lib.Seq.{getD-set-same, getD-set-other}
+use Rattle.base.specs.Places.{count}
+use Rattle.base.proofs.Counting.{clash, left, eqb-yes, yes-eqb, count-same, count-insert, count-le}
+use Rattle.grid.specs.Planes.{plane}
+use Rattle.grid.specs.Steps.{hop, hood}
+use Rattle.grid.proofs.Places.{some-inj, none-some, hood-sound, hood-complete}
+use Rattle.grid.proofs.Planes.{plane-same, plane-else, plane-other}
+use Rattle.verdicts.specs.Polling.{Desk, big, Kept, ballot, Tallied, Polled}
+use Rattle.verdicts.proofs.Regions.{count-none}
+use Rattle.verdicts.proofs.Desks.{kept-none, kept-and, kept-store, desk-big}
+
+-- a count is at most the number of cells
+pub tally-le : {n m : ℕ} {work counts : List ℕ} → Tallied n work m counts → (c : ℕ) → c < 256 → getD counts c 0 ≤ n
+tally-le {n = n} t c l = rw (t .votes c l) (count-le n _)
+
+-- before the first vote
+pub tally-start : (n m : ℕ) (a : List ℕ) → ((q : ℕ) → q < n → plane n 5 a q < m) → Tallied n a m (replicate 256 0)
+unfolding ballot
+tally-start n m a fresh = record {
+  size = length-replicate {A = ℕ} 256 0;
+  votes = λ c l. getD-replicate 256 c 0 0 l ∙ sym (count-same n (ballot n a m c) (λ q. false)
+      (λ q h y. let e : plane n 5 a q ≡ m = eqb-yes (left (eqb (plane n 5 a q) m) (eqb (plane n 0 a q) (c + 1)) y) in absurd (omega (arith, fresh q h)))
+      (λ q h y. clash y refl) ∙ count-none n);
+}
+
+module _ (n limit m : ℕ) where
+  -- whoever is asked has no vote or has voted
+  pub polled-still : {A : ℕ → Type 0} (a counts : List ℕ) → Tallied n a m counts → ((q : ℕ) → q < n → A q → big n limit a q ≡ true → plane n 5 a q ≡ m) → Polled n limit m A a a counts
+  polled-still a counts t f = record {
+    kept = kept-none n a;
+    rest = λ q h. refl;
+    tally = t;
+    stays = λ q h e. e;
+    marks = λ q h. inl refl;
+    heard = f;
+  }
+
+  -- nobody is asked
+  pub polled-none : (a counts : List ℕ) → Tallied n a m counts → Polled n limit m (λ q. ⊥) a a counts
+  polled-none a counts t = polled-still a counts t (λ q h z. absurd z)
+
+  -- these are asked, and then those
+  pub polled-and : {A B : ℕ → Type 0} {a b c : List ℕ} (counts counts′ : List ℕ) → ((q : ℕ) → q < n → big n limit b q ≡ big n limit a q) → Polled n limit m A a b counts → Polled n limit m B b c counts′ → Polled n limit m (λ q. A q ⊎ B q) a c counts′
+  polled-and {A} {B} {a} {b} {c} counts counts′ same u v = record {
+    kept = kept-and (u .kept) (v .kept);
+    rest = λ q h. v .rest q h ∙ u .rest q h;
+    tally = v .tally;
+    stays = λ q h e. v .stays q h (u .stays q h e);
+    marks = λ q h. ⊎-elim
+        (λ e. ⊎-elim (λ f. inl (e ∙ f)) (λ f. inr (e ∙ f .0, inl (f .1), f .2)) (u .marks q h))
+        (λ e. inr (e .0, inr (e .1), sym (same q h) ∙ e .2)) (v .marks q h);
+    heard = λ q h y big. ⊎-elim (λ x. v .stays q h (u .heard q h x big)) (λ x. v .heard q h x (same q h ∙ big)) y;
+  }
+
+  -- the same cells, said otherwise
+  pub polled-same : {A B : ℕ → Type 0} {a b counts : List ℕ} → ((q : ℕ) → q < n → A q → B q) → ((q : ℕ) → q < n → B q → A q) → Polled n limit m A a b counts → Polled n limit m B a b counts
+  polled-same f g u = record {
+    kept = u .kept;
+    rest = u .rest;
+    tally = u .tally;
+    stays = u .stays;
+    marks = λ q h. ⊎-elim inl (λ e. inr (e .0, f q h (e .1), e .2)) (u .marks q h);
+    heard = λ q h y. u .heard q h (g q h y);
+  }
+
+  module _ (q : ℕ) (lq : q < n) (a counts : List ℕ) (t : Tallied n a m counts) where
+    -- q is asked, and has no vote or has voted
+    pub polled-silent : (big n limit a q ≡ true → plane n 5 a q ≡ m) → Polled n limit m (λ x. x ≡ q) a a counts
+    polled-silent f = polled-still a counts t (λ x h e b. rw e (f (rw e at b)))
+
+    -- q is asked, and votes for c
+    module _ (c i : ℕ) (e : i ≡ 5 * n + q) (li : i < length a) (large : big n limit a q ≡ true) (free : plane n 5 a q ≡ m → ⊥)
+        (is : plane n 0 a q ≡ c + 1) (lc : c < 256) where
+      abbrev after : List ℕ
+      after = set a i m
+
+      abbrev more : List ℕ
+      more = set counts c (getD counts c 0 + 1)
+
+      kept : Kept n a after
+      kept = kept-store n 5 q i m a e (omega arith) lq
+
+      here : plane n 5 after q ≡ m
+      here = plane-same n 5 q i a m e li
+
+      there : (x : ℕ) → (x ≡ q → ⊥) → plane n 5 after x ≡ plane n 5 a x
+      there x z = plane-else n 5 q i a m e x z
+
+      ballot-there : (d x : ℕ) → x < n → (x ≡ q → ⊥) → ballot n after m d x ≡ ballot n a m d x
+      unfolding ballot
+      ballot-there d x h z = rw (there x z, kept .same 0 x (omega arith) h)
+
+      ballot-was : (d : ℕ) → ballot n a m d q ≡ false
+      unfolding ballot
+      ballot-was d = rw (ne-eqb (plane n 5 a q) m free)
+
+      ballot-is : (d : ℕ) → ballot n after m d q ≡ eqb (c + 1) (d + 1)
+      unfolding ballot
+      ballot-is d = rw (eq-eqb (plane n 5 after q) m here, kept .same 0 q (omega arith) lq, is)
+
+      counted : (d : ℕ) → d < 256 → getD more d 0 ≡ count n (ballot n after m d)
+      counted d l = elim (ℕ-discrete d c) [ yes y ↦ one y | no z ↦ none z ]
+        where
+          one : d ≡ c → getD more d 0 ≡ count n (ballot n after m d)
+          one y =
+              let s : getD more d 0 ≡ getD counts d 0 + 1 = rw y (getD-set-same counts c (getD counts c 0 + 1) 0 (omega (arith, t .size))) in
+              let k = count-insert n (ballot n a m d) (ballot n after m d) q lq (λ x h z. ballot-there d x h z) (ballot-was d) (ballot-is d ∙ yes-eqb {m = c + 1} {n = d + 1} (omega arith)) in
+              omega (arith, t .votes d l)
+
+          none : (d ≡ c → ⊥) → getD more d 0 ≡ count n (ballot n after m d)
+          none z =
+              let k : (x : ℕ) → x < n → ballot n after m d x ≡ ballot n a m d x =
+              (λ x h. elim (ℕ-discrete x q) [ yes y ↦ (rw y (ballot-is d ∙ ne-eqb (c + 1) (d + 1) (λ u. z (omega arith)) ∙ sym (ballot-was d))) | no y ↦ ballot-there d x h y ]) in
+              getD-set-other counts c d (getD counts c 0 + 1) 0 z
+              ∙ t .votes d l
+              ∙ count-same n (ballot n a m d) (ballot n after m d) (λ x h y. k x h ∙ y) (λ x h y. sym (k x h) ∙ y)
+
+      pub polled-cast : Polled n limit m (λ x. x ≡ q) a after more
+      polled-cast = record {
+        kept = kept;
+        rest = λ x h. plane-other n 5 q i a m e 6 x (λ z. absurd (omega arith)) lq h;
+        tally = record { size = length-set counts c (getD counts c 0 + 1) ∙ t .size; votes = counted };
+        stays = λ x h y. elim (ℕ-discrete x q) [ yes z ↦ absurd (free (rw z at y)) | no z ↦ there x z ∙ y ];
+        marks = λ x h. elim (ℕ-discrete x q) [ yes z ↦ inr (rw z here, z, rw z large) | no z ↦ inl (there x z) ];
+        heard = λ x h y b. rw y here;
+      }
+
+  -- a step finds nobody, or a cell that is asked
+  module _ {o : Option ℕ} {a counts : List ℕ} where
+    pub polled-off : o ≡ none → Tallied n a m counts → Polled n limit m (λ x. o ≡ some x) a a counts
+    polled-off e t = polled-same (λ q h z. absurd z) (λ q h z. none-some (sym e ∙ z)) (polled-none a counts t)
+
+    pub polled-on : {b : List ℕ} (q : ℕ) → o ≡ some q → Polled n limit m (λ x. x ≡ q) a b counts → Polled n limit m (λ x. o ≡ some x) a b counts
+    polled-on q e u = polled-same (λ x h z. e ∙ ap some (sym z)) (λ x h z. some-inj (sym z ∙ e)) u
+
+-- ---- the neighbours of a place, step by step
+
+-- one of the first k steps from p leads to q
+abbrev pub Reached : ℕ → ℕ → ℕ → ℕ → ℕ → Type 0
+Reached h w p k q = (i : ℕ) × (i < k) × (hop h w p i ≡ some q)
+
+module _ (h w steps limit m p : ℕ) where
+  pub reach-start : (a counts : List ℕ) → Tallied (h * w) a m counts → Polled (h * w) limit m (Reached h w p 0) a a counts
+  reach-start a counts t =
+      polled-same (h * w) limit m (λ q l z. absurd z) (λ q l z. absurd (not-suc-le-zero (z .1))) (polled-none (h * w) limit m a counts t)
+
+  pub reach-on : {a b c : List ℕ} (counts counts′ : List ℕ) (k : ℕ) → Desk h w steps a → Polled (h * w) limit m (Reached h w p k) a b counts → Polled (h * w) limit m (λ q. hop h w p k ≡ some q) b c counts′ → Polled (h * w) limit m (Reached h w p (k + 1)) a c counts′
+  reach-on {a} {b} counts counts′ k d u v =
+      polled-same (h * w) limit m
+      (λ q l. ⊎-elim (λ z. (z .0, omega (arith, z .1), z .2)) (λ z. (k, omega arith, z)))
+      (λ q l z. elim (ℕ-discrete (z .0) k) [ yes e ↦ inr (rw e at (z .2)) | no e ↦ inl (z .0, omega (arith, z .1), z .2) ])
+      (polled-and (h * w) limit m counts counts′ (desk-big h w steps a d b (u .kept) limit) u v)
+
+  pub reach-all : {a b counts : List ℕ} (k : ℕ) → (steps ≡ 4) ⊎ (steps ≡ 8) → steps ≡ k → Polled (h * w) limit m (Reached h w p k) a b counts → Polled (h * w) limit m (λ q. hood steps w p q ≡ true) a b counts
+  reach-all k ok e u =
+      polled-same (h * w) limit m
+      (λ q l z. hood-sound steps ok h w p (z .0) q (omega (arith, z .1)) (z .2))
+      (λ q l y. let z = hood-complete steps ok h w p q l y in (z .0, omega (arith, z .1), z .2)) u
+
+-- ---- the neighbours of the places of a run, place by place
+
+-- q neighbours one of the places from `from` on and before `to`
+abbrev pub Beside : ℕ → ℕ → ℕ → List ℕ → ℕ → ℕ → ℕ → Type 0
+Beside h w steps a from to q = (i : ℕ) × (from ≤ i) × (i < to) × (hood steps w (plane (h * w) 2 a i) q ≡ true)
+
+module _ (h w steps limit m from : ℕ) where
+  pub beside-start : (a counts : List ℕ) → Tallied (h * w) a m counts → Polled (h * w) limit m (Beside h w steps a from from) a a counts
+  beside-start a counts t =
+      polled-same (h * w) limit m (λ q l z. absurd z) (λ q l z. absurd (omega (arith, z .1, z .2))) (polled-none (h * w) limit m a counts t)
+
+  pub beside-on : {a b c : List ℕ} (counts counts′ : List ℕ) (to p : ℕ) → from ≤ to → Desk h w steps a → p ≡ plane (h * w) 2 a to → Polled (h * w) limit m (Beside h w steps a from to) a b counts → Polled (h * w) limit m (λ q. hood steps w p q ≡ true) b c counts′ → Polled (h * w) limit m (Beside h w steps a from (to + 1)) a c counts′
+  beside-on {a} {b} counts counts′ to p le d e u v =
+      polled-same (h * w) limit m
+      (λ q l. ⊎-elim (λ z. (z .0, z .1, omega (arith, z .2), z .3)) (λ z. (to, le, omega arith, rw e at z)))
+      (λ q l z. elim (ℕ-discrete (z .0) to) [ yes f ↦ inr (rw (e, ← f) (z .3)) | no f ↦ inl (z .0, z .1, omega (arith, z .2), z .3) ])
+      (polled-and (h * w) limit m counts counts′ (desk-big h w steps a d b (u .kept) limit) u v)

@@ -1,0 +1,3 @@
+pub mod Choice
+pub mod Polling
+pub mod Judging
