@@ -22,7 +22,7 @@ use Rattle.rules.specs.Palette.{Palette}
 use Rattle.rules.specs.Outline.{asked, touches, pads, paddedAt, padded, canvas, hasRing, inked, lineColour, choice, Outlined, drawn, outline}
 use Rattle.rules.specs.Entries.{factsOf, outlineRefusal, outlineAnswer, outlineCells, outlinePalette}
 use Rattle.outline.specs.Drawing.{traced, Drew}
-use Rattle.outline.specs.Line.{Chose}
+use Rattle.line.specs.Line.{Chose}
 use Rattle.outline.proofs.Fillings.{over-filled}
 use Rattle.outline.proofs.Padding.{sheet-padded}
 

@@ -3,8 +3,6 @@ pub mod Rings
 pub mod Edges
 pub mod Fillings
 pub mod Padding
-pub mod Least
 pub mod Inking
-pub mod Choosing
 pub mod Drawn
 pub mod Refusing

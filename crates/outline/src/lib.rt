@@ -1,6 +1,5 @@
 // The outline of a sheet: padding where it applies, the ring, and the palette entry that it is drawn with.
 pub mod canvas;
-pub mod line;
 pub mod ring;
 pub mod rows;
 

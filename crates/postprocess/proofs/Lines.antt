@@ -22,7 +22,7 @@ use Rattle.rules.specs.Outline.{asked, pads, canvas, hasRing, sameRgb8, nearest
 use Rattle.rules.specs.Run.{padAllowed, outlineIf}
 use Rattle.rules.specs.Rows.{isAuto, noEntry}
 use Rattle.base.proofs.Counting.{case, clash, both, or-right}
-use Rattle.outline.proofs.Least.{least-below, chosen-below, where-below}
+use Rattle.line.proofs.Scans.{least-below, chosen-below, where-below}
 use Rattle.postprocess.proofs.Indices.{Named, named-more, canvas-named, inked-named}
 
 -- ---- the choice of an entry

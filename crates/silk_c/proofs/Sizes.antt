@@ -11,7 +11,7 @@ use Rattle.base.specs.Refusals.{Row, refusal, unless}
 use Rattle.base.proofs.Counting.{case}
 use Rattle.color.specs.declared.Lab.{Lab}
 use Rattle.checks.proofs.Rows.{rows-none, not-large, good-palette}
-use Rattle.outline.proofs.Choosing.{index-below}
+use Rattle.line.proofs.Choosing.{index-below}
 use Rattle.rules.specs.declared.Facts.{Facts}
 use Rattle.rules.specs.declared.Outline.{Outline}
 use Rattle.rules.specs.declared.Outlining.the-variants as outlinings

@@ -6,7 +6,7 @@ use native.Mathlib.Omega.{arith}
 use borrow.Author.Tests.{not-true, not-false}
 use borrow.Author.Needs.{needs}
 use Rattle.base.specs.Outputs.{filled}
-use Rattle.outline.proofs.Choosing.{index-below}
+use Rattle.line.proofs.Choosing.{index-below}
 use Rattle.outline.proofs.Inking.{painted, inked-is}
 use Rattle.outline.proofs.Drawn.{drew-none, drew-ring}
 use Rattle.outline.proofs.draw.Statement.{statement}
