@@ -8,12 +8,12 @@ use lib.IntN.{ℤ, pos, negsuc}
 use lib.ListN.{length, getD, take, length-map, List·getD-map}
 use lib.Seq.{getD-take, length-take-le}
 use Rattle.base.specs.Outputs.{filled}
-use Rattle.base.proofs.Counting.{case}
 use Rattle.rules.specs.Regions.{at}
 use Rattle.rules.specs.Masks.{isSet, maskCells}
 use Rattle.grid.specs.Planes.{plane, paintOf, Painted}
 use Rattle.grid.proofs.Tiles.{filled-plane}
 use Rattle.mask.specs.Lines.{bitOf}
+use Rattle.mask.proofs.Lines.{bit-small}
 
 -- the cell of a byte
 cellOf : ℕ → ℤ
@@ -39,10 +39,6 @@ mask-painted mask work n h = record {
       filled-plane n (λ q. bitOf (getD mask q 0)) work p l ∙ paint-bit (getD mask p 0)
       ∙ ap (λ (b : ℕ). paintOf (cellOf b)) (sym (getD-take n mask p 0 l)) ∙ ap paintOf (sym (mask-at (take n mask) p));
 }
-
-bit-small : (b : ℕ) → bitOf b ≤ 2147483648
-unfolding bitOf
-bit-small b = case (isSet b) (λ y. rw y (omega arith)) (λ z. rw z (omega arith))
 
 -- the paints of a mask are small
 pub bits-small : (mask work new : List ℕ) (n : ℕ) → new ≡ filled n (λ p. bitOf (getD mask p 0)) work → (p : ℕ) → p < n → plane n 0 new p ≤ 2147483648

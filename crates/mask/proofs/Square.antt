@@ -1,55 +1,26 @@
--- Along the rows, then along the columns, is within k rows and k columns. Assumes nothing.
-use Prim.Native.Nat.{ℕ, _+_, _*_, _/_, _%_, _≤_, _<_}
+-- Along the rows, then down the columns, is within k rows and k columns. Assumes nothing.
+use Prim.Native.Nat.{ℕ, _+_, _-_, _*_, _/_, _%_, _≤_, _<_, min}
 use mathlib.Core.Path.{_≡_, sym, ap, _∙_}
 use mathlib.Core.Bool.{Bool, true, _&&_, cond}
 use mathlib.Core.List.{List}
-use native.Mathlib.Nat.{mul-one, div-add-mod', le-mul-of-pos-right}
+use native.Mathlib.Nat.{div-add-mod', min-le-right}
+use native.Mathlib.Decide.{decLt}
 use native.Mathlib.Omega.{arith}
 use lib.ListN.{length, getD}
 use Rattle.base.specs.Places.{any}
 use Rattle.base.specs.Outputs.{filled}
-use Rattle.base.proofs.Counting.{case, both, left, right, any-yes, yes-any, same-test}
+use Rattle.base.proofs.Counting.{both, left, right, any-yes, yes-any, same-test}
 use Rattle.base.proofs.Fills.{filled-at, filled-past, filled-length, filled-is}
 use Rattle.rules.specs.Grid.{close}
 use Rattle.rules.specs.Masks.{isSet, dilatedAt}
-use Rattle.mask.specs.Lines.{bitOf, setOn, nearby, Lines, Crossed}
-use Rattle.grid.proofs.Places.{wide, row-in, col-in, row-of, col-of, place-in}
-use Rattle.mask.proofs.Windows.{any-same}
-
--- ---- rows and columns as lines
-
-module _ (h w len : ℕ) (tall : h ≤ 512) (broad : w ≤ 512) (some : 0 < h * w) (room : 8 * (h * w) ≤ len) where
-  pub rows : Lines (h * w) len h w 1 w
-  rows =
-      let pw = wide h w 0 some in
-      let ph = row-in h w 0 some in
-      let wider : w ≤ w * h = le-mul-of-pos-right w (omega arith) in
-      record {
-        each = λ y l. record { inside = λ x m. rw (mul-one x) (place-in h w y x l m); onward = omega arith; room = omega arith; short = broad };
-        some = pw;
-        apart = λ y x z v m u l k e. sym (row-of w y x m) ∙ ap (λ (p : ℕ). p / w) (omega arith) ∙ row-of w z v u;
-      }
-
-  pub cols : Lines (h * w) len w 1 w h
-  cols =
-      let ph = row-in h w 0 some in
-      let pw = wide h w 0 some in
-      let taller : h ≤ h * w = le-mul-of-pos-right h pw in
-      record {
-        each = λ x l. record { inside = λ y m. let q = place-in h w y x m l in omega arith; onward = pw; room = omega arith; short = tall };
-        some = omega arith;
-        apart = λ x y v z m u l k e. sym (col-of w y x l) ∙ ap (λ (p : ℕ). p % w) (omega arith) ∙ col-of w z v k;
-      }
-
--- ---- both directions together
-
--- some place of row y within k columns of x passes t
-inRow : ℕ → ℕ → (ℕ → Bool) → ℕ → ℕ → Bool
-inRow w k t x y = any w (λ i. t (y * w + i) && close k x i)
+use Rattle.mask.specs.Lines.{less, setFrom, inRow, grows, Written, Counted}
+use Rattle.grid.proofs.Places.{row-in, col-in, row-of, col-of, place-in}
+use Rattle.mask.proofs.Windows.{window-law}
+use Rattle.mask.proofs.Lines.{row-next, row-below}
 
 square : (h w k : ℕ) (t : ℕ → Bool) (p : ℕ) →
-    any h (λ y. inRow w k t (p % w) y && close k (p / w) y) ≡ any (h * w) (λ q. t q && close k (p / w) (q / w) && close k (p % w) (q % w))
-unfolding inRow
+    any h (λ y. any w (λ i. t (y * w + i) && close k (p % w) i) && close k (p / w) y)
+    ≡ any (h * w) (λ q. t q && close k (p / w) (q / w) && close k (p % w) (q % w))
 square h w k t p = same-test there back
   where
     near : ℕ → Bool
@@ -81,43 +52,49 @@ square h w k t p = same-test there back
         yes-any h (λ y. any w (across y) && close k (p / w) y) (q / w) (row-in h w q (r .1))
         (both s (right (t q) (close k (p / w) (q / w)) a))
 
-near-set : (k size : ℕ) (t : ℕ → Bool) (i : ℕ) → isSet (nearby k size t i) ≡ any size (λ j. t j && close k i j)
-unfolding nearby isSet
-near-set k size t i = case (any size (λ j. t j && close k i j)) (λ y. rw y) (λ z. rw z)
-
--- rows of a mask crossed, then columns: the mask dilated
-module _ (mask : List ℕ) (h w k : ℕ) (a b c : List ℕ) (start : (p : ℕ) → p < h * w → getD a p 0 ≡ getD mask p 0) (across : Crossed h w 1 w k h a b) (down : Crossed w 1 w h k w b c) where
-  along : (x y : ℕ) → x < w → y < h → setOn b (x * 1) w y ≡ inRow w k (λ q. isSet (getD mask q 0)) x y
-  unfolding setOn inRow
-  along x y m l =
-      let turned : x * 1 + y * w ≡ y * w + x * 1 = omega arith in
-      ap isSet (ap (λ (q : ℕ). getD b q 0) turned ∙ across .done y x l m)
-      ∙ near-set k w (setOn a (y * w) 1) x
-      ∙ any-same w _ _ (λ i u. ap (λ (v : ℕ). isSet v && close k x i)
-      (ap (λ (q : ℕ). getD a (y * w + q) 0) (mul-one i) ∙ start (y * w + i) (place-in h w y i l u)))
-
-  dilated : (p : ℕ) → p < h * w → bitOf (getD c p 0) ≡ dilatedAt mask h w k p
-  unfolding bitOf dilatedAt
-  dilated p l =
-      let x = col-in h w p l in
-      let y = row-in h w p l in
-      let at : p ≡ p % w * 1 + p / w * w = omega (arith, div-add-mod' p w) in
-      ap (λ (v : Bool). cond v 1 0)
-      (ap isSet (ap (λ (q : ℕ). getD c q 0) at ∙ down .done (p % w) (p / w) x y)
-      ∙ near-set k h (setOn b (p % w * 1) w) (p / w)
-      ∙ any-same h _ _ (λ i u. ap (λ (v : Bool). v && close k (p / w) i) (along (p % w) i x u))
-      ∙ square h w k (λ q. isSet (getD mask q 0)) p)
+-- the counts down a column grow in a window of rows exactly if a place of the square about p is set
+dilated : {mask work : List ℕ} {h w k : ℕ} → Counted mask w k h work → (p : ℕ) → p < h * w →
+    grows work h w k (p / w) (p % w) ≡ dilatedAt mask h w k p
+unfolding grows less inRow setFrom dilatedAt
+dilated {mask} {work} {h} {w} {k} c p l =
+    let x = col-in h w p l in
+    let y = row-in h w p l in
+    let lo = c .rows (p / w - k) (p % w) (omega arith) x in
+    let hi = c .rows (min (p / w + k + 1) h) (p % w) (min-le-right (p / w + k + 1) h) x in
+    rw (lo, hi)
+    (ap (λ (v : Bool). cond v 1 0) (window-law (inRow mask w k (p % w)) h k (p / w) ∙ square h w k (λ q. isSet (getD mask q 0)) p))
 
 filled-same : (n : ℕ) (f g : ℕ → ℕ) (l : List ℕ) → n ≤ length l → ((p : ℕ) → p < n → f p ≡ g p) → filled n f l ≡ filled n g l
 filled-same n f g l h e =
     filled-is n g l (filled n f l) 0 h (filled-length n f l h) (λ p k. filled-at n f l 0 p k ∙ e p k) (filled-past n f l 0)
 
--- loaded, crossed both ways and stored
-pub dilation-is : (mask work : List ℕ) (h w k : ℕ) (a b c out last : List ℕ) → h * w ≤ length out →
-    a ≡ filled (h * w) (λ p. getD mask p 0) work → Crossed h w 1 w k h a b → Crossed w 1 w h k w b c →
-    last ≡ filled (h * w) (λ p. bitOf (getD c p 0)) out → last ≡ filled (h * w) (dilatedAt mask h w k) out
-dilation-is mask work h w k a b c out last room e across down f =
-    f
-    ∙ filled-same (h * w) (λ p. bitOf (getD c p 0)) (dilatedAt mask h w k) out room
-    (dilated mask h w k a b c
-    (λ p l. ap (λ (x : List ℕ). getD x p 0) e ∙ filled-at (h * w) (λ p. getD mask p 0) work 0 p l) across down)
+-- counted, then stored
+pub dilation-is : {mask work last : List ℕ} {h w k : ℕ} (out : List ℕ) → h * w ≤ length out → Counted mask w k h work →
+    last ≡ filled (h * w) (λ p. grows work h w k (p / w) (p % w)) out → last ≡ filled (h * w) (dilatedAt mask h w k) out
+dilation-is {mask} {work} {h = h} {w} {k} out room c e =
+    e ∙ filled-same (h * w) (λ p. grows work h w k (p / w) (p % w)) (dilatedAt mask h w k) out room (dilated c)
+
+-- ---- row after row of the answer
+
+-- a list that is filled up to row y, and that row written by the counts at the ends of its window: filled up to the next one
+pub fill-row : {b c : List ℕ} {lo hi : ℕ} (work a : List ℕ) (h w k y : ℕ) → y < h → h * w ≤ length a → length c ≡ length a →
+    b ≡ filled (y * w) (λ p. grows work h w k (p / w) (p % w)) a → lo ≡ y - k → hi ≡ min (y + k + 1) h →
+    Written (y * w) w (λ j. less (getD work (lo * w + j) 0) (getD work (hi * w + j) 0)) b c →
+    c ≡ filled ((y + 1) * w) (λ p. grows work h w k (p / w) (p % w)) a
+unfolding grows
+fill-row {b} {c} {lo} {hi} work a h w k y l room same e low high t =
+    let next = row-next y w in
+    let within = row-below y h w l in
+    filled-is ((y + 1) * w) f a c 0 (omega arith) same
+    (λ p m. at p (omega arith) (decLt p (y * w)))
+    (λ p m. t .past p (omega arith) ∙ ap (λ (x : List ℕ). getD x p 0) e ∙ filled-past (y * w) f a 0 p (omega arith))
+  where
+    f : ℕ → ℕ
+    f p = grows work h w k (p / w) (p % w)
+
+    row : (i : ℕ) → i < w → getD c (y * w + i) 0 ≡ f (y * w + i)
+    row i u = rw (row-of w y i u, col-of w y i u, ← low, ← high) (t .new i u)
+
+    at : (p : ℕ) → p < y * w + w → Dec (p < y * w) → getD c p 0 ≡ f p
+    at p m (yes g) = t .before p g ∙ ap (λ (x : List ℕ). getD x p 0) e ∙ filled-at (y * w) f a 0 p g
+    at p m (no g) = let q : y * w + (p - y * w) ≡ p = omega arith in rw q at (row (p - y * w) (omega arith))

@@ -6,6 +6,8 @@ use native.Mathlib.Omega.{arith}
 use lib.ListN.{length, set, length-set}
 use Rattle.base.specs.Outputs.{filled}
 use Rattle.base.proofs.Fills.{filled-more}
+use Rattle.mask.specs.Lines.{Written}
+use Rattle.mask.proofs.Lines.{written-more}
 
 -- of size turns i are made; the list a has become b, as long as a, and what `Done` says holds
 pub record Turns (i size : ℕ) (a b : List ℕ) (Done : Type 0) : Type 0 where
@@ -22,3 +24,8 @@ pub fill-turn : {i size : ℕ} {a b : List ℕ} (f : ℕ → ℕ) (v : ℕ) → 
     Turns (i + 1) size a (set b i v) (set b i v ≡ filled (i + 1) f a)
 fill-turn {i} {size} {a} {b} f v t l h e =
     turn i v t l (ap (λ (x : List ℕ). set x i v) (t .done) ∙ filled-more i f a v (omega arith) e)
+
+-- and where a stretch is written
+pub stretch-turn : {i size start v : ℕ} {a b : List ℕ} {f : ℕ → ℕ} → Turns i size a b (Written start i f a b) → i < size → start + size ≤ length a →
+    v ≡ f i → Turns (i + 1) size a (set b (start + i) v) (Written start (i + 1) f a (set b (start + i) v))
+stretch-turn {i} {start} {v} t l h e = turn (start + i) v t l (written-more (t .done) (omega (arith, t .same)) e)

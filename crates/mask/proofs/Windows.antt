@@ -1,6 +1,6 @@
 -- The window law: a count grows between two numbers exactly if some place between them passes. Assumes nothing.
 use Prim.Native.Nat.{ℕ, zero, suc, _+_, _-_, _≤_, _<_, min}
-use mathlib.Core.Path.{_≡_, sym, _∙_}
+use mathlib.Core.Path.{_≡_}
 use mathlib.Core.Bool.{Bool, true, _&&_}
 use native.Mathlib.Nat.{le-refl, zero-add, not-suc-le-zero, lt-suc-self, le-step, min-le-left, min-le-right, le-min}
 use native.Mathlib.Decide.{decLe}
@@ -58,10 +58,3 @@ window-law t size k i =
     let u : r .0 < min (i + k + 1) size = le-min (omega arith) (r .1) in
     lt-ltb (count (i - k) t) (count (min (i + k + 1) size) t)
     (grown t (i - k) (min (i + k + 1) size) (r .0) (omega arith) u (left (t (r .0)) (close k i (r .0)) (r .2))))
-
--- the same test at each place
-pub any-same : (n : ℕ) (t u : ℕ → Bool) → ((p : ℕ) → p < n → t p ≡ u p) → any n t ≡ any n u
-any-same n t u e =
-    same-test
-    (λ y. let r = any-yes n t y in yes-any n u (r .0) (r .1) (sym (e (r .0) (r .1)) ∙ r .2))
-    (λ y. let r = any-yes n u y in yes-any n t (r .0) (r .1) (e (r .0) (r .1) ∙ r .2))

@@ -1,4 +1,4 @@
--- What the parts of the dilation promise one another: lines of places in a work area. Definitions only. Assumes nothing.
+-- What the parts of the dilation promise one another: stretches of numbers, and counts of set places. Definitions only. Assumes nothing.
 use Prim.Native.Nat.{ℕ, _+_, _*_, _-_, _≤_, _<_, min}
 use mathlib.Core.Path.{_≡_}
 use mathlib.Core.Bool.{Bool, _&&_, cond}
@@ -13,42 +13,40 @@ use Rattle.rules.specs.Masks.{isSet}
 unfoldable pub bitOf : ℕ → ℕ
 bitOf v = cond (isSet v) 1 0
 
--- whether place i of the line that begins at start and goes on by stride is set
-unfoldable pub setOn : List ℕ → ℕ → ℕ → ℕ → Bool
-setOn work start stride i = isSet (getD work (start + i * stride) 0)
+-- 1 if a is less than b
+unfoldable pub less : ℕ → ℕ → ℕ
+less a b = cond (ltb a b) 1 0
 
--- 1 if one of the first size places that pass t is within k of i
-unfoldable pub nearby : ℕ → ℕ → (ℕ → Bool) → ℕ → ℕ
-nearby k size t i = cond (any size (λ j. t j && close k i j)) 1 0
+-- a became b: the d numbers from start on are f 0, f 1, ..; every other is kept
+pub record Written (start d : ℕ) (f : ℕ → ℕ) (a b : List ℕ) : Type 0 where
+  pub new : (i : ℕ) → i < d → getD b (start + i) 0 ≡ f i
+  pub before : (p : ℕ) → p < start → getD b p 0 ≡ getD a p 0
+  pub past : (p : ℕ) → start + d ≤ p → getD b p 0 ≡ getD a p 0
 
--- 1 if the counts from n on grow between the ends of the window of k about i
-unfoldable pub grows : List ℕ → ℕ → ℕ → ℕ → ℕ → ℕ
-grows work n size k i = cond (ltb (getD work (n + (i - k)) 0) (getD work (n + min (i + k + 1) size) 0)) 1 0
+-- ---- along a row
 
--- a line of size places below n, with room for its counts from n on in a list of length len
-pub record Line (n len start stride size : ℕ) : Type 0 where
-  pub inside : (i : ℕ) → i < size → start + i * stride < n
-  pub onward : 0 < stride
-  pub room : n + size < len
-  pub short : size ≤ 512
+-- whether place i of the row that begins at start is set
+unfoldable pub setFrom : List ℕ → ℕ → ℕ → Bool
+setFrom mask start i = isSet (getD mask (start + i) 0)
 
--- lines side by side, each beginning step after the one before; no two share a place
-pub record Lines (n len lines step stride size : ℕ) : Type 0 where
-  pub each : (j : ℕ) → j < lines → Line n len (j * step) stride size
-  pub some : 0 < size
-  pub apart : (j i l m : ℕ) → i < size → m < size → j < lines → l < lines → j * step + i * stride ≡ l * step + m * stride → j ≡ l
+-- how many of the first w places that pass t stand before place i - r
+unfoldable pub padded : ℕ → ℕ → (ℕ → Bool) → ℕ → ℕ
+padded r w t i = count (min (i - r) w) t
 
--- a became b: the numbers from n on count the set places before each of a line's first d; what is below n is kept
-pub record Tallied (n start stride d : ℕ) (a b : List ℕ) : Type 0 where
-  pub kept : (p : ℕ) → p < n → getD b p 0 ≡ getD a p 0
-  pub sums : (i : ℕ) → i < d → getD b (n + i) 0 ≡ count i (setOn a start stride)
+-- what stands at from, and 1 more if what stands at hi is more than what stands at lo; all three j further on
+unfoldable pub nextCount : List ℕ → ℕ → ℕ → ℕ → ℕ → ℕ
+nextCount work from lo hi j = getD work (from + j) 0 + less (getD work (lo + j) 0) (getD work (hi + j) 0)
 
--- a became b: the first d places of a line hold f 0, f 1, ..; every other place below limit is kept
-pub record Painted (limit start stride d : ℕ) (f : ℕ → ℕ) (a b : List ℕ) : Type 0 where
-  pub line : (i : ℕ) → i < d → getD b (start + i * stride) 0 ≡ f i
-  pub others : (p : ℕ) → p < limit → ((i : ℕ) → i < d → p ≡ start + i * stride → ⊥) → getD b p 0 ≡ getD a p 0
+-- ---- down the columns
 
--- a became b: the first d of the lines are dilated by k, each along itself; the others are kept
-pub record Crossed (lines step stride size k d : ℕ) (a b : List ℕ) : Type 0 where
-  pub done : (j i : ℕ) → j < d → i < size → getD b (j * step + i * stride) 0 ≡ nearby k size (setOn a (j * step) stride) i
-  pub left : (j i : ℕ) → d ≤ j → j < lines → i < size → getD b (j * step + i * stride) 0 ≡ getD a (j * step + i * stride) 0
+-- whether row y of the mask has a set place within k columns of x
+unfoldable pub inRow : List ℕ → ℕ → ℕ → ℕ → ℕ → Bool
+inRow mask w k x y = any w (λ i. setFrom mask (y * w) i && close k x i)
+
+-- d + 1 rows of w counts: each counts the rows before its own that have a set place within k columns
+pub record Counted (mask : List ℕ) (w k d : ℕ) (work : List ℕ) : Type 0 where
+  pub rows : (y x : ℕ) → y ≤ d → x < w → getD work (y * w + x) 0 ≡ count y (inRow mask w k x)
+
+-- 1 if the counts of column x grow in the window of k rows about y
+unfoldable pub grows : List ℕ → ℕ → ℕ → ℕ → ℕ → ℕ → ℕ
+grows work h w k y x = less (getD work ((y - k) * w + x) 0) (getD work (min (y + k + 1) h * w + x) 0)

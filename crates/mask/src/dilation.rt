@@ -1,11 +1,12 @@
-// Dilation of a mask by k rows and k columns: separable, by running counts along each row, then along each column.
-// The first h * w numbers of the work area hold the mask; the counts of one line stand after them.
+// Dilation of a mask by k rows and k columns: separable, by running counts along each row, then down the columns.
+// The work area holds h + 1 rows of counts down the columns; the counts along one row stand behind them.
 ghost use mathlib.Core.Path.{_≡_};
-ghost use Prim.Native.Nat.{_+_, _-_, _*_, _≤_, _<_, min, max};
+ghost use Prim.Native.Nat.{ℕ, _+_, _-_, _*_, _/_, _%_, _≤_, _<_, min, max};
 ghost use lib.ListN.{length, getD};
 ghost use Rattle.base.specs.Outputs.{filled};
 ghost use Rattle.rules.specs.Masks.{reachOf, dilatedAt, dilationAnswer, dilationOut};
-ghost use Rattle.mask.specs.Lines.{bitOf, setOn, nearby, grows, Line, Lines, Tallied, Painted, Crossed};
+ghost use Rattle.base.specs.Places.{count};
+ghost use Rattle.mask.specs.Lines.{bitOf, less, setFrom, padded, nextCount, grows, Written, Counted};
 use base::Filling;
 
 // 1 for a number that is not 0.
@@ -45,106 +46,121 @@ fn reach(h: usize, w: usize, iterations: u32) -> usize
     }
 }
 
-// The counts of the set places before each place of a line, and of all of them.
-fn tally(work: &mut [u32], n: usize, start: usize, stride: usize, size: usize)
-    requires { ⌜ Line n (length (now work)) start stride size ⌝ }
-    ensures { λ _. ⌜ Tallied n start stride (size + 1) (now (work .entry)) (now (work .exit)) ⌝ }
+// 1 if a is less than b, else 0.
+fn one_if_less(a: u32, b: u32) -> u32
+    ensures { λ r. ⌜ r ≡ less a b ⌝ }
 {
-    let mut sum = 0;
-    for i in 0..size {
-        let from = start + i * stride;
-        let v = bit(work[from]);
-        let to = n + i;
-        work[to] = sum;
-        sum = sum + v;
-    }
-    let end = n + size;
-    work[end] = sum;
+    if a < b { 1 } else { 0 }
 }
 
-// Whether the counts grow in the window of k about i: 1 or 0.
-fn in_window(work: &[u32], n: usize, size: usize, k: usize, i: usize) -> u32
-    requires { ⌜ (n + size < length (now work)) × (i < size) × (k ≤ 65535) × (size ≤ 512) ⌝ }
-    ensures { λ r. ⌜ r ≡ grows (now (work .entry)) n size k i ⌝ }
+// The n numbers from `from` on become v.
+fn fill(work: &mut [u32], from: usize, n: usize, v: u32)
+    requires { ⌜ from + n ≤ length (now work) ⌝ }
+    ensures { λ _. ⌜ Written from n (λ i. v) (now (work .entry)) (now (work .exit)) ⌝ }
 {
-    let lo = n + saturating_sub(i, k);
-    let hi = n + lesser(i + k + 1, size);
-    if work[lo] < work[hi] { 1 } else { 0 }
-}
-
-// Each place of a line becomes 1 or 0 by the counts in its window.
-fn sweep(work: &mut [u32], n: usize, start: usize, stride: usize, size: usize, k: usize)
-    requires { ⌜ Line n (length (now work)) start stride size × (k ≤ 65535) ⌝ }
-    ensures { λ _. ⌜ Painted (length (now (work .entry))) start stride size (grows (now (work .entry)) n size k) (now (work .entry)) (now (work .exit)) ⌝ }
-{
-    for i in 0..size {
-        let v = in_window(work, n, size, k, i);
-        let at = start + i * stride;
+    for i in 0..n {
+        let at = from + i;
         work[at] = v;
     }
 }
 
-// One line, dilated by k along itself.
-fn window(work: &mut [u32], n: usize, start: usize, stride: usize, size: usize, k: usize)
-    requires { ⌜ Line n (length (now work)) start stride size × (k ≤ 65535) ⌝ }
-    ensures { λ _. ⌜ Painted n start stride size (nearby k size (setOn (now (work .entry)) start stride)) (now (work .entry)) (now (work .exit)) ⌝ }
+// The counts of the set places before each place of the row at `from`; the answer is the count of all of them.
+fn tally(mask: &[u8], from: usize, w: usize, work: &mut [u32], to: usize) -> u32
+    requires { ⌜ (from + w ≤ length (now mask)) × (to + w ≤ length (now work)) × (w ≤ 512) ⌝ }
+    ensures { λ r. ⌜ r ≡ count w (setFrom (now (mask .entry)) from) ⌝ }
+    ensures { λ _. ⌜ Written to w (λ i. count i (setFrom (now (mask .entry)) from)) (now (work .entry)) (now (work .exit)) ⌝ }
 {
-    tally(work, n, start, stride, size);
-    sweep(work, n, start, stride, size, k);
+    let mut sum = 0;
+    for i in 0..w {
+        let at = from + i;
+        let v = bit(mask[at] as u32);
+        let put = to + i;
+        work[put] = sum;
+        sum = sum + v;
+    }
+    sum
 }
 
-// All lines of one direction.
-fn windows(
-    work: &mut [u32],
-    n: usize,
-    lines: usize,
-    step: usize,
-    stride: usize,
-    size: usize,
-    k: usize,
-)
-    requires { ⌜ Lines n (length (now work)) lines step stride size × (k ≤ 65535) ⌝ }
-    ensures { λ _. ⌜ Crossed lines step stride size k lines (now (work .entry)) (now (work .exit)) ⌝ }
+// The same with a margin of r more numbers on either side, where the count stands still.
+fn tally_wide(mask: &[u8], from: usize, w: usize, r: usize, work: &mut [u32], line: usize)
+    requires { ⌜ (from + w ≤ length (now mask)) × (line + w + 2 * r < length (now work)) × (w ≤ 512) ⌝ }
+    ensures { λ _. ⌜ Written line (r + (w + (r + 1))) (padded r w (setFrom (now (mask .entry)) from)) (now (work .entry)) (now (work .exit)) ⌝ }
 {
-    for j in 0..lines {
-        let start = j * step;
-        window(work, n, start, stride, size, k);
+    fill(work, line, r, 0);
+    let first = line + r;
+    let sum = tally(mask, from, w, work, first);
+    let end = first + w;
+    fill(work, end, r + 1, sum);
+}
+
+// The next row of counts down the columns: 1 more where the count along the row grows from lo to hi.
+fn add_row(work: &mut [u32], from: usize, w: usize, lo: usize, hi: usize)
+    requires { ⌜ (from + w + w ≤ lo) × (lo ≤ hi) × (hi + w ≤ length (now work)) ⌝ }
+    requires { ⌜ ((j : ℕ) → j < w → getD (now work) (from + j) 0 ≤ 512) ⌝ }
+    ensures { λ _. ⌜ Written (from + w) w (nextCount (now (work .entry)) from lo hi) (now (work .entry)) (now (work .exit)) ⌝ }
+{
+    let to = from + w;
+    for j in 0..w {
+        let low = lo + j;
+        let high = hi + j;
+        let above = from + j;
+        let at = to + j;
+        work[at] = work[above] + one_if_less(work[low], work[high]);
     }
 }
 
-// The mask goes to the front of the work area.
-fn load(mask: &[u8], n: usize, work: &mut [u32])
-    requires { ⌜ (n ≤ length (now mask)) × (n ≤ length (now work)) ⌝ }
-    ensures { λ _. ⌜ now (work .exit) ≡ filled n (λ p. getD (now (mask .entry)) p 0) (now (work .entry)) ⌝ }
+// For each row y and column x, how many of the rows before y have a set place within k columns of x.
+fn count_rows(mask: &[u8], h: usize, w: usize, k: usize, work: &mut [u32])
+    requires { ⌜ (h ≤ 512) × (w ≤ 512) × (0 < h * w) × (h * w ≤ length (now mask)) × (8 * (h * w) ≤ length (now work)) ⌝ }
+    ensures { λ _. ⌜ Counted (now (mask .entry)) w k h (now (work .exit)) ⌝ }
 {
-    for i in 0..n {
-        work[i] = mask[i] as u32;
+    fill(work, 0, w, 0);
+    let line = (h + 1) * w;
+    let r = lesser(k, w);
+    let hi = line + 2 * r + 1;
+    for y in 0..h {
+        let at = y * w;
+        tally_wide(mask, at, w, r, work, line);
+        add_row(work, at, w, line, hi);
     }
 }
 
-// And comes back as 1 and 0.
-fn store(work: &[u32], n: usize, out: &mut [u8])
-    requires { ⌜ (n ≤ length (now work)) × (n ≤ length (now out)) ⌝ }
-    ensures { λ _. ⌜ now (out .exit) ≡ filled n (λ p. bitOf (getD (now (work .entry)) p 0)) (now (out .entry)) ⌝ }
+// A row of the answer: 1 where the counts grow from the row at lo to the row at hi, else 0.
+fn store_row(work: &[u32], lo: usize, hi: usize, w: usize, out: &mut [u8], at: usize)
+    requires { ⌜ (lo + w ≤ length (now work)) × (hi + w ≤ length (now work)) × (at + w ≤ length (now out)) ⌝ }
+    ensures { λ _. ⌜ Written at w (λ j. less (getD (now (work .entry)) (lo + j) 0) (getD (now (work .entry)) (hi + j) 0)) (now (out .entry)) (now (out .exit)) ⌝ }
 {
-    let mut i = 0;
-    while i < n {
-        out[i] = bit(work[i]) as u8;
-        i += 1;
+    let mut j = 0;
+    while j < w {
+        let low = lo + j;
+        let high = hi + j;
+        let put = at + j;
+        out[put] = one_if_less(work[low], work[high]) as u8;
+        j += 1;
     }
 }
 
-// A mask of at least one place: along the rows, then along the columns.
+// The answer, by the counts at the two ends of each window of rows.
+fn store(work: &[u32], h: usize, w: usize, k: usize, out: &mut [u8])
+    requires { ⌜ (h ≤ 512) × (w ≤ 512) × (k ≤ 65535) × ((h + 1) * w ≤ length (now work)) × (h * w ≤ length (now out)) ⌝ }
+    ensures { λ _. ⌜ now (out .exit) ≡ filled (h * w) (λ p. grows (now (work .entry)) h w k (p / w) (p % w)) (now (out .entry)) ⌝ }
+{
+    for y in 0..h {
+        let at = y * w;
+        let lo = saturating_sub(y, k) * w;
+        let hi = lesser(y + k + 1, h) * w;
+        store_row(work, lo, hi, w, out, at);
+    }
+}
+
+// A mask of at least one place: along the rows, then down the columns.
 fn dilate(mask: &[u8], h: usize, w: usize, k: usize, out: &mut [u8], work: &mut [u32])
     requires { ⌜ (h ≤ 512) × (w ≤ 512) × (0 < h * w) × (k ≤ 65535) ⌝ }
     requires { ⌜ (h * w ≤ length (now mask)) × (h * w ≤ length (now out)) × (8 * (h * w) ≤ length (now work)) ⌝ }
     ensures { λ _. ⌜ now (out .exit) ≡ filled (h * w) (dilatedAt (now (mask .entry)) h w k) (now (out .entry)) ⌝ }
 {
-    let n = h * w;
-    load(mask, n, work);
-    windows(work, n, h, w, 1, w, k);
-    windows(work, n, w, 1, w, h, k);
-    store(work, n, out);
+    count_rows(mask, h, w, k, work);
+    store(work, h, w, k, out);
 }
 
 // Every place within `iterations` rows and columns of a set one becomes 1, every other 0; 0 iterations stand for max(h, w).

@@ -1,48 +1,41 @@
 -- `tally` meets its contract. The invariant: the counts stand as far as the loop has come, and `sum` is the next one. Assumes nothing.
-use Prim.Native.Nat.{_+_, _-_, _*_, _<_}
+use Prim.Native.Nat.{_+_, _-_}
 use mathlib.Core.Path.{_≡_, refl}
 use native.Mathlib.Omega.{arith}
-use lib.ListN.{getD, length-set}
+use lib.ListN.{getD}
 use Rattle.base.specs.Places.{count}
 use Rattle.base.proofs.Counting.{count-le}
-use Rattle.mask.specs.Lines.{setOn, Tallied}
-use Rattle.mask.proofs.Turns.{Turns, turn}
-use Rattle.mask.proofs.Lines.{bit-small, tally-none, tally-zero, tally-more, tally-sum}
+use Rattle.mask.specs.Lines.{setFrom, Written}
+use Rattle.mask.proofs.Turns.{Turns, stretch-turn}
+use Rattle.mask.proofs.Lines.{bit-small, written-none, tally-zero, tally-sum}
 use Rattle.mask.proofs.dilation.tally.Statement.{statement}
 use Rattle.mask.proofs.dilation.tally.Tie as tie
 
 abbrev Inv-loop : tie.InvT-loop
-Inv-loop work₀ n start stride size sum₀ i₀ work sum i =
-    Turns i size work₀ work ((sum ≡ count i (setOn work₀ start stride)) × Tallied n start stride i work₀ work)
+Inv-loop mask from w work₀ to sum₀ i₀ work sum i = (sum ≡ count i (setFrom mask from)) × Turns i w work₀ work (Written to i (λ m. count m (setFrom mask from)) work₀ work)
 
 abbrev μ-loop : tie.MeasureT-loop
-μ-loop work₀ n start stride size sum₀ i₀ work sum i = size - i
+μ-loop mask from w work₀ to sum₀ i₀ work sum i = w - i
 
 loop-holds : tie.Need-loop-holds Inv-loop μ-loop
-loop-holds c = record { below = omega arith; same = refl; done = (tally-zero _, tally-none _ _ _ _) }
+loop-holds c = (tally-zero _, record { below = omega arith; same = refl; done = written-none _ _ _ })
 
--- the place that is read
-inside : (c : tie.In-loop Inv-loop μ-loop) →
-    c .before .before .before .args .start + c .before .loop .i * c .before .before .before .args .stride < c .before .before .before .args .n
-inside c = c .before .before .before .pre .inside (c .before .loop .i) (c .loop-test .taken)
+add-at : tie.Need-add-at Inv-loop μ-loop
+add-at c = omega arith
 
-mul-from : tie.Need-mul-from Inv-loop μ-loop
-mul-from c = omega (arith, inside c)
+shared-slice-read-bit : tie.Need-shared-slice-read-bit Inv-loop μ-loop
+shared-slice-read-bit c = omega arith
 
-add-from : tie.Need-add-from Inv-loop μ-loop
-add-from c = omega (arith, inside c)
-
-mul-bit : tie.Need-mul-bit Inv-loop μ-loop
-mul-bit c = omega (arith, inside c)
-
-slice-read-bit : tie.Need-slice-read-bit Inv-loop μ-loop
-slice-read-bit c = omega (arith, inside (c .before))
+cast-bit : tie.Need-cast-bit Inv-loop μ-loop
+cast-bit c =
+    let l = c .before .before in
+    omega (arith, c .shared-slice-known2 .given (l .before .before .before .args .from + l .loop .i))
 
 bit-requires : tie.Need-bit-requires Inv-loop μ-loop
 bit-requires c κs = tt
 
-add-to : tie.Need-add-to Inv-loop μ-loop
-add-to c = omega arith
+add-put : tie.Need-add-put Inv-loop μ-loop
+add-put c = omega arith
 
 mul-work : tie.Need-mul-work Inv-loop μ-loop
 mul-work c = omega arith
@@ -52,9 +45,9 @@ slice-write-work c = omega arith
 
 add-sum : tie.Need-add-sum Inv-loop μ-loop
 add-sum c =
-    let l = c .before .before .before .loop in
-    let a = c .before .before .before .before .before .args in
-    omega (arith, c .bit .ensures, count-le (l .i) (setOn (a .work .now) (a .start) (a .stride)), bit-small (getD (l .work) (a .start + l .i * a .stride) 0))
+    let l = c .before .before .before in
+    let a = l .before .before .before .args in
+    omega (arith, c .bit .ensures, count-le (l .loop .i) (setFrom (a .mask .now) (a .from)), bit-small (getD (a .mask .now) (a .from + l .loop .i) 0))
 
 add-i : tie.Need-add-i Inv-loop μ-loop
 add-i c = omega arith
@@ -66,28 +59,16 @@ loop-again : tie.Need-loop-again Inv-loop μ-loop
 loop-again c =
     let l = c .before .before in
     let inv = l .before .loop .inv in
-    turn _ _ inv (l .loop-test .taken) (
-      tally-sum (l .before .before .before .pre) (l .loop-test .taken) (inv .done .1) (inv .done .0) (c .bit .ensures),
-      tally-more (inv .done .1) (omega arith) (inv .done .0),
-    )
-
-add-end : tie.Need-add-end Inv-loop μ-loop
-add-end c = omega arith
-
-mul-work-2 : tie.Need-mul-work-2 Inv-loop μ-loop
-mul-work-2 c = omega arith
-
-slice-write-work-2 : tie.Need-slice-write-work-2 Inv-loop μ-loop
-slice-write-work-2 c = omega arith
+    (tally-sum _ _ _ (inv .0) (c .bit .ensures), stretch-turn (inv .1) (l .loop-test .taken) (omega arith) (inv .0))
 
 same-length : tie.Need-same-length Inv-loop μ-loop
-same-length c = simp length-set (c .before .loop .inv .same)
+same-length c = c .before .loop .inv .1 .same
 
 returns : tie.Need-returns Inv-loop μ-loop
 returns c =
-    let all : c .before .loop .i ≡ c .before .before .before .args .size = omega arith in
-    let done = c .before .loop .inv .done in
-    tally-more (rw all at (done .1)) (omega arith) (rw all at (done .0))
+    let all : c .before .loop .i ≡ c .before .before .before .before .args .w = omega arith in
+    let inv = c .before .loop .inv in
+    (rw all at (inv .0), rw all at (inv .1 .done))
 
 pub tally-spec : {M : Type 1} → statement M
 tally-spec =
@@ -96,20 +77,16 @@ tally-spec =
     Inv-loop
     μ-loop
     loop-holds
-    mul-from
-    add-from
-    mul-bit
-    slice-read-bit
+    add-at
+    shared-slice-read-bit
+    cast-bit
     bit-requires
-    add-to
+    add-put
     mul-work
     slice-write-work
     add-sum
     add-i
     loop-less
     loop-again
-    add-end
-    mul-work-2
-    slice-write-work-2
     same-length
     returns)
