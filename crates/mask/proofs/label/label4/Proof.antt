@@ -1,6 +1,6 @@
 -- `label4` meets its contract: checked, painted, labelled. Assumes nothing.
 use mathlib.Core.Path.{_≡_, refl, sym, _∙_, subst}
-use mathlib.Core.Logic.{inl}
+use mathlib.Core.Logic.{inl, inr}
 use mathlib.Core.List.{[]}
 use mathlib.Core.Option.{none}
 use Prim.Native.Nat.{_*_}
@@ -48,7 +48,7 @@ label-into-requires c κs =
     let p = c .before .before .before .before in
     let a = start (p .before .before) .args in
     let f = fit (p .before .before) in (
-      (record { rows = omega (arith, f .rows); cols = omega (arith, f .cols); count = inl refl; planes = omega (arith, f .planes, p .paint .kept .1 .1 .0) }, f .fills),
+      (record { rows = omega (arith, f .rows); cols = omega (arith, f .cols); count = search (inl, inr); planes = omega (arith, f .planes, p .paint .kept .1 .1 .0) }, f .fills),
       bits-small (a .mask .now) (a .work .now) (p .paint .last .1 .1 .0) (a .h * a .w) (p .paint .ensures),
     )
 
