@@ -19,10 +19,10 @@ use Rattle.rules.specs.Grid.{stepTo}
 use Rattle.rules.specs.Masks.{labelAt, regions}
 use Rattle.rules.proofs.Roots.{link-same, link-adj, to-link}
 use Rattle.grid.specs.declared.Tally.{Tally}
-use Rattle.grid.specs.Steps.{rowsOf, colsOf, hop, hood}
+use Rattle.grid.specs.Steps.{hood}
 use Rattle.grid.specs.Planes.{plane, paintOf, cellOf, cellsOf, groupAt, endOf, Labelled}
 use Rattle.grid.specs.Filling.{Sized, blanks, joined, Right, Ordered, Ended, Filled, Shut, Waits, Flood, Tinted, Passed, Kept, Since, Visited, wordOf, Cleared}
-use Rattle.grid.proofs.Places.{hop-in, hood-sound, hood-complete, some-inj}
+use Rattle.grid.proofs.Places.{rowsOf, colsOf, hop, hop-in, hood-sound, hood-complete, some-inj}
 use Rattle.grid.proofs.Planes.{plane-same, plane-else, plane-other, cells-at, cells-paint, opaque-paint}
 use Rattle.grid.proofs.Filling.{Put, room-left, put-since, at-old, at-new, sheet-kept, since-refl, since-trans, clear-label, link-label, first-next, not-first, first-number, root-is-first, clear-not-first, labelled-opaque, next-root, old-not-first, symm, len, put-here, filled-put}
 

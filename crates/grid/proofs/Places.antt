@@ -3,6 +3,7 @@ use Prim.Native.Nat.{ℕ, zero, suc, _+_, _-_, _*_, _/_, _%_, _≤_, _<_}
 use mathlib.Core.Path.{_≡_, refl, sym, ap, _∙_, subst}
 use mathlib.Core.Logic.{_⊎_, inl, inr, ⊎-elim}
 use mathlib.Core.Bool.{Bool, true, false, not, _&&_, _||_, cond}
+use mathlib.Core.List.{List, [], _∷_}
 use mathlib.Core.Option.{Option, none, some}
 use native.Mathlib.Nat.{mul-zero, mul-le-mul, not-suc-le-zero, add-mul, mod-lt, mod-eq-of-lt, div-eq-of-lt, mul-add-div-right, mul-add-mod-self-right, div-add-mod', div-lt-iff-lt-mul}
 use native.Mathlib.Decide.{ℕ-discrete, decLt}
@@ -10,13 +11,14 @@ use native.Mathlib.Omega.{arith}
 use borrow.Author.Tests.{ltb-true, ltb-false, lt-ltb, le-ltb}
 use lib.Dec.{lit<, leb, ltb, eqb}
 use lib.IntN.{ℤ, pos, negsuc, _+ℤ_}
+use lib.ListN.{getD}
 use lib.Signed.{leZ}
 use Rattle.base.proofs.Counting.{case, clash, both, left, right, either, or-left, or-right, not-true, not-false, eqb-yes, yes-eqb, leb-yes, yes-leb}
 use Rattle.rules.specs.Regions.{Symmetric}
 use Rattle.rules.specs.Grid.{close, eight, four, onSide, placeOf, stepTo}
 use Rattle.rules.proofs.Grids.{eight-symmetric, four-symmetric}
 use Rattle.grid.specs.declared.Step.the-variants.{Cell, Off}
-use Rattle.grid.specs.Steps.{Single, Inner, stepOf, rowsOf, colsOf, hop, hood}
+use Rattle.grid.specs.Steps.{Single, Inner, stepOf, hood}
 
 -- ---- rows, columns and places
 
@@ -109,6 +111,23 @@ step-sound h w y x q dy dx e = go (onSide h (pos y +ℤ dy)) (onSide w (pos x +�
     go none c er ec f = absurd (none-some f)
 
 -- ---- the eight steps
+
+-- their rows and columns; the four orthogonal steps first
+abbrev pub offsets : List (List ℤ)
+offsets =
+    (negsuc 0 ∷ pos 0 ∷ []) ∷ (pos 0 ∷ negsuc 0 ∷ []) ∷ (pos 0 ∷ pos 1 ∷ []) ∷ (pos 1 ∷ pos 0 ∷ []) ∷
+    (negsuc 0 ∷ negsuc 0 ∷ []) ∷ (negsuc 0 ∷ pos 1 ∷ []) ∷ (pos 1 ∷ negsuc 0 ∷ []) ∷ (pos 1 ∷ pos 1 ∷ []) ∷ []
+
+-- the rows and the columns of the k-th step
+abbrev pub rowsOf : ℕ → ℤ
+rowsOf k = getD (getD offsets k []) 0 (pos 0)
+
+abbrev pub colsOf : ℕ → ℤ
+colsOf k = getD (getD offsets k []) 1 (pos 0)
+
+-- where the k-th step leads from the place p
+unfoldable pub hop : ℕ → ℕ → ℕ → ℕ → Option ℕ
+hop h w p k = stepTo h w (p / w) (p % w) (rowsOf k) (colsOf k)
 
 -- what holds of the eight steps holds of each number below 8
 pub each-step : (P : ℕ → Type 0) → P 0 → P 1 → P 2 → P 3 → P 4 → P 5 → P 6 → P 7 → (k : ℕ) → k < 8 → P k

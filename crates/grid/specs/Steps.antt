@@ -1,36 +1,17 @@
 -- Steps from a cell of a grid to its neighbours. Definitions only. Assumes nothing.
 use Prim.Native.Nat.{ℕ, _+_, _/_, _%_, _<_}
 use mathlib.Core.Bool.{Bool, cond}
-use mathlib.Core.List.{List, [], _∷_}
 use mathlib.Core.Option.{Option, none, some}
 use lib.Dec.{eqb}
 use lib.IntN.{ℤ, pos, negsuc}
-use lib.ListN.{getD}
 use Rattle.grid.specs.declared.Step.{Step}
 use Rattle.grid.specs.declared.Step.the-variants.{Cell, Off}
-use Rattle.rules.specs.Grid.{four, eight, stepTo}
+use Rattle.rules.specs.Grid.{four, eight}
 
 -- what a step finds, as the answer of `neighbour`
 unfoldable pub stepOf : Option ℕ → Step
 stepOf none = Off
 stepOf (some p) = Cell p
-
--- the eight steps, row and column; the four orthogonal ones first
-abbrev pub offsets : List (List ℤ)
-offsets =
-    (negsuc 0 ∷ pos 0 ∷ []) ∷ (pos 0 ∷ negsuc 0 ∷ []) ∷ (pos 0 ∷ pos 1 ∷ []) ∷ (pos 1 ∷ pos 0 ∷ []) ∷
-    (negsuc 0 ∷ negsuc 0 ∷ []) ∷ (negsuc 0 ∷ pos 1 ∷ []) ∷ (pos 1 ∷ negsuc 0 ∷ []) ∷ (pos 1 ∷ pos 1 ∷ []) ∷ []
-
--- the rows and the columns of the k-th step
-abbrev pub rowsOf : ℕ → ℤ
-rowsOf k = getD (getD offsets k []) 0 (pos 0)
-
-abbrev pub colsOf : ℕ → ℤ
-colsOf k = getD (getD offsets k []) 1 (pos 0)
-
--- where the k-th step leads from the place p
-unfoldable pub hop : ℕ → ℕ → ℕ → ℕ → Option ℕ
-hop h w p k = stepTo h w (p / w) (p % w) (rowsOf k) (colsOf k)
 
 -- one place back, none, or one on
 pub data Single : ℤ → Type 0 where

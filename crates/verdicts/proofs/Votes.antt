@@ -15,8 +15,8 @@ use lib.Seq.{getD-set-same, getD-set-other}
 use Rattle.base.specs.Places.{count}
 use Rattle.base.proofs.Counting.{clash, left, eqb-yes, yes-eqb, count-same, count-insert, count-le}
 use Rattle.grid.specs.Planes.{plane}
-use Rattle.grid.specs.Steps.{hop, hood}
-use Rattle.grid.proofs.Places.{some-inj, none-some, hood-sound, hood-complete}
+use Rattle.grid.specs.Steps.{hood}
+use Rattle.grid.proofs.Places.{hop, some-inj, none-some, hood-sound, hood-complete}
 use Rattle.grid.proofs.Planes.{plane-same, plane-else, plane-other}
 use Rattle.verdicts.specs.Polling.{Desk, big, Kept, ballot, Tallied, Polled}
 use Rattle.verdicts.proofs.Regions.{count-none}

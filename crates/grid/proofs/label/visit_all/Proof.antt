@@ -10,10 +10,10 @@ use lib.ListN.{length, getD}
 use mir.Syntax.{w32}
 use mir.Val.{SFits}
 use mir.Facts.{toZ-ofZ}
-use Rattle.grid.specs.Steps.{Inner, rowsOf, colsOf}
+use Rattle.grid.specs.Steps.{Inner}
 use Rattle.grid.specs.Planes.{plane}
 use Rattle.grid.specs.Filling.{seen, Coded, Tinted}
-use Rattle.grid.proofs.Places.{area, step-few, offset-single}
+use Rattle.grid.proofs.Places.{area, rowsOf, colsOf, step-few, offset-single}
 use Rattle.grid.proofs.Planes.{plane-read}
 use Rattle.grid.proofs.Flooding.{Turn, turn-start, turn-on, turn-off}
 use Rattle.grid.proofs.Seen.{seen-size, seen-other, seen-length}

@@ -5,8 +5,7 @@ use borrow.Author.Needs.{needs}
 use mir.Syntax.{w32}
 use mir.Val.{SFits}
 use mir.Facts.{toZ-ofZ}
-use Rattle.grid.specs.Steps.{rowsOf, colsOf, hop}
-use Rattle.grid.proofs.Places.{wide, row-in, col-in, step-few, offset-near}
+use Rattle.grid.proofs.Places.{wide, row-in, col-in, rowsOf, colsOf, hop, step-few, offset-near}
 use Rattle.verdicts.specs.Polling.{Polled}
 use Rattle.verdicts.proofs.Desks.{desk-ready, desk-kept}
 use Rattle.verdicts.proofs.Votes.{Reached, reach-start, reach-on, reach-all}
