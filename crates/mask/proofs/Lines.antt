@@ -3,7 +3,7 @@ use Prim.Native.Nat.{ℕ, _+_, _-_, _*_, _≤_, _<_, min, zero-le}
 use mathlib.Core.Path.{_≡_, refl, sym, ap, _∙_}
 use mathlib.Core.Bool.{Bool, _&&_, cond}
 use mathlib.Core.List.{List}
-use native.Mathlib.Nat.{not-suc-le-zero, le-of-lt, add-mul, one-mul, suc-mul, zero-mul, mul-le-mul-right, le-mul-of-pos-right, min-eq-left, min-eq-right}
+use native.Mathlib.Nat.{not-suc-le-zero, le-of-lt, suc-mul, zero-mul, mul-le-mul-right, le-mul-of-pos-right, min-eq-left, min-eq-right}
 use native.Mathlib.Numerals.{add-one}
 use native.Mathlib.Decide.{decLt, decLe}
 use native.Mathlib.Omega.{arith}
@@ -16,6 +16,7 @@ use Rattle.rules.specs.Grid.{close}
 use Rattle.rules.specs.Masks.{isSet}
 use Rattle.mask.specs.Lines.{bitOf, less, setFrom, padded, nextCount, inRow, Written, Counted}
 use Rattle.grid.proofs.Places.{row-in}
+use Rattle.grid.proofs.Tiles.{next-row}
 use Rattle.mask.proofs.Windows.{window-law}
 
 one-small : (b : Bool) → cond b 1 0 ≤ 1
@@ -114,6 +115,7 @@ ends {r} {w} k e j l = go (decLe k w)
         let lo : j - r ≡ j - k = omega arith in
         (rw lo (min-eq-left (omega arith)), min-eq-right (omega arith) ∙ sym (min-eq-right (omega arith)))
 
+-- the counts with a margin tell whether a place within k of j passes
 near-row : (t : ℕ → Bool) {r : ℕ} (k w : ℕ) → r ≡ min k w → (j : ℕ) → j < w →
     less (padded r w t j) (padded r w t (2 * r + 1 + j)) ≡ cond (any w (λ i. t i && close k j i)) 1 0
 unfolding less padded
@@ -128,9 +130,7 @@ unfolding nextCount
 next-kept {j = j} from w lo hi t l u m e =
     rw (e, t .before (from + j) (omega arith), t .past (lo + j) (omega arith), t .past (hi + j) (omega arith))
 
-pub row-next : (y w : ℕ) → (y + 1) * w ≡ y * w + w
-row-next y w = omega (arith, add-mul y 1 w, one-mul w)
-
+-- a row ends at or before the end of them all
 pub row-below : (y h w : ℕ) → y < h → y * w + w ≤ h * w
 row-below y h w l = omega (arith, mul-le-mul-right w l, suc-mul y w)
 
@@ -169,7 +169,7 @@ counted-more {mask} {a} {b} {c} {w} {k} {r} {y} {line} e rows pad t = record { r
 
     at : (z x : ℕ) → z ≤ y + 1 → x < w → Dec (z ≤ y) → getD c (z * w + x) 0 ≡ count z (inRow mask w k x)
     at z x l m (yes g) = let f = mul-le-mul-right w g in t .before (z * w + x) (omega arith) ∙ rows .rows z x g m
-    at z x l m (no g) = let q : z ≡ y + 1 = omega arith in rw (q, row-next y w) (next x m)
+    at z x l m (no g) = let q : z ≡ y + 1 = omega arith in rw (q, next-row y w) (next x m)
 
 -- the work area holds h + 1 rows and, behind them, the counts along a row with a margin of at most w on either side
 pub record Room (h w len : ℕ) : Type 0 where
@@ -180,5 +180,5 @@ pub room : (h w len : ℕ) → 0 < h * w → 8 * (h * w) ≤ len → Room h w le
 room h w len some l =
     let one = row-in h w 0 some in
     let wide : w ≤ w * h = le-mul-of-pos-right w (omega arith) in
-    let rows = row-next h w in
+    let rows = next-row h w in
     record { rows = rows; behind = omega arith }

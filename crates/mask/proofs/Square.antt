@@ -1,6 +1,6 @@
 -- Along the rows, then down the columns, is within k rows and k columns. Assumes nothing.
 use Prim.Native.Nat.{ℕ, _+_, _-_, _*_, _/_, _%_, _≤_, _<_, min}
-use mathlib.Core.Path.{_≡_, sym, ap, _∙_}
+use mathlib.Core.Path.{_≡_, ap, _∙_}
 use mathlib.Core.Bool.{Bool, true, _&&_, cond}
 use mathlib.Core.List.{List}
 use native.Mathlib.Nat.{div-add-mod', min-le-right}
@@ -15,8 +15,9 @@ use Rattle.rules.specs.Grid.{close}
 use Rattle.rules.specs.Masks.{isSet, dilatedAt}
 use Rattle.mask.specs.Lines.{less, setFrom, inRow, grows, Written, Counted}
 use Rattle.grid.proofs.Places.{row-in, col-in, row-of, col-of, place-in}
+use Rattle.grid.proofs.Tiles.{next-row}
 use Rattle.mask.proofs.Windows.{window-law}
-use Rattle.mask.proofs.Lines.{row-next, row-below}
+use Rattle.mask.proofs.Lines.{row-below}
 
 square : (h w k : ℕ) (t : ℕ → Bool) (p : ℕ) →
     any h (λ y. any w (λ i. t (y * w + i) && close k (p % w) i) && close k (p / w) y)
@@ -83,7 +84,7 @@ pub fill-row : {b c : List ℕ} {lo hi : ℕ} (work a : List ℕ) (h w k y : ℕ
     c ≡ filled ((y + 1) * w) (λ p. grows work h w k (p / w) (p % w)) a
 unfolding grows
 fill-row {b} {c} {lo} {hi} work a h w k y l room same e low high t =
-    let next = row-next y w in
+    let next = next-row y w in
     let within = row-below y h w l in
     filled-is ((y + 1) * w) f a c 0 (omega arith) same
     (λ p m. at p (omega arith) (decLt p (y * w)))

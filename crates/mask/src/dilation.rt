@@ -3,9 +3,9 @@
 ghost use mathlib.Core.Path.{_≡_};
 ghost use Prim.Native.Nat.{ℕ, _+_, _-_, _*_, _/_, _%_, _≤_, _<_, min, max};
 ghost use lib.ListN.{length, getD};
+ghost use Rattle.base.specs.Places.{count};
 ghost use Rattle.base.specs.Outputs.{filled};
 ghost use Rattle.rules.specs.Masks.{reachOf, dilatedAt, dilationAnswer, dilationOut};
-ghost use Rattle.base.specs.Places.{count};
 ghost use Rattle.mask.specs.Lines.{bitOf, less, setFrom, padded, nextCount, grows, Written, Counted};
 use base::Filling;
 
@@ -64,7 +64,7 @@ fn fill(work: &mut [u32], from: usize, n: usize, v: u32)
     }
 }
 
-// The counts of the set places before each place of the row at `from`; the answer is the count of all of them.
+// From `to` on, how many places of the row at `from` are set before each of its places; the answer counts all of them.
 fn tally(mask: &[u8], from: usize, w: usize, work: &mut [u32], to: usize) -> u32
     requires { ⌜ (from + w ≤ length (now mask)) × (to + w ≤ length (now work)) × (w ≤ 512) ⌝ }
     ensures { λ r. ⌜ r ≡ count w (setFrom (now (mask .entry)) from) ⌝ }
@@ -81,7 +81,7 @@ fn tally(mask: &[u8], from: usize, w: usize, work: &mut [u32], to: usize) -> u32
     sum
 }
 
-// The same with a margin of r more numbers on either side, where the count stands still.
+// The same from `line` on, with a margin of r more numbers on either side, where the count stands still.
 fn tally_wide(mask: &[u8], from: usize, w: usize, r: usize, work: &mut [u32], line: usize)
     requires { ⌜ (from + w ≤ length (now mask)) × (line + w + 2 * r < length (now work)) × (w ≤ 512) ⌝ }
     ensures { λ _. ⌜ Written line (r + (w + (r + 1))) (padded r w (setFrom (now (mask .entry)) from)) (now (work .entry)) (now (work .exit)) ⌝ }
@@ -93,7 +93,7 @@ fn tally_wide(mask: &[u8], from: usize, w: usize, r: usize, work: &mut [u32], li
     fill(work, end, r + 1, sum);
 }
 
-// The next row of counts down the columns: 1 more where the count along the row grows from lo to hi.
+// Behind the row of counts at `from`, the next one: 1 more where the count along the mask's row grows from lo to hi.
 fn add_row(work: &mut [u32], from: usize, w: usize, lo: usize, hi: usize)
     requires { ⌜ (from + w + w ≤ lo) × (lo ≤ hi) × (hi + w ≤ length (now work)) ⌝ }
     requires { ⌜ ((j : ℕ) → j < w → getD (now work) (from + j) 0 ≤ 512) ⌝ }
@@ -142,7 +142,7 @@ fn store_row(work: &[u32], lo: usize, hi: usize, w: usize, out: &mut [u8], at: u
 
 // The answer, by the counts at the two ends of each window of rows.
 fn store(work: &[u32], h: usize, w: usize, k: usize, out: &mut [u8])
-    requires { ⌜ (h ≤ 512) × (w ≤ 512) × (k ≤ 65535) × ((h + 1) * w ≤ length (now work)) × (h * w ≤ length (now out)) ⌝ }
+    requires { ⌜ (h ≤ 512) × (k ≤ 65535) × ((h + 1) * w ≤ length (now work)) × (h * w ≤ length (now out)) ⌝ }
     ensures { λ _. ⌜ now (out .exit) ≡ filled (h * w) (λ p. grows (now (work .entry)) h w k (p / w) (p % w)) (now (out .entry)) ⌝ }
 {
     for y in 0..h {

@@ -1,5 +1,5 @@
 -- `add_row` meets its contract. The invariant: the next row is written as far as the loop has come, and all else is as it was. Assumes nothing.
-use Prim.Native.Nat.{_+_, _-_, _≤_}
+use Prim.Native.Nat.{_+_, _-_}
 use mathlib.Core.Path.{_≡_, refl}
 use native.Mathlib.Omega.{arith}
 use lib.ListN.{getD}

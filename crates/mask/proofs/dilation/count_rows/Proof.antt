@@ -1,5 +1,5 @@
 -- `count_rows` meets its contract. The invariant: the rows up to `y` are counted. Assumes nothing.
-use Prim.Native.Nat.{_+_, _-_, _*_, _≤_, _<_, min}
+use Prim.Native.Nat.{_+_, _-_, _*_, _≤_}
 use mathlib.Core.Path.{_≡_, refl}
 use native.Mathlib.Nat.{min-le-right}
 use native.Mathlib.Omega.{arith}

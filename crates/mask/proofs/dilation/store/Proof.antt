@@ -1,5 +1,5 @@
 -- `store` meets its contract. The invariant: the rows before `y` are written. Assumes nothing.
-use Prim.Native.Nat.{_+_, _-_, _*_, _/_, _%_, _≤_, _<_, min}
+use Prim.Native.Nat.{_+_, _-_, _*_, _/_, _%_, _≤_}
 use mathlib.Core.Path.{_≡_, refl}
 use native.Mathlib.Nat.{zero-mul, min-le-right}
 use native.Mathlib.Omega.{arith}
