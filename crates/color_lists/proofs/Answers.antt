@@ -1,42 +1,22 @@
--- What the tests of a list tell of its rows, and what an answer says of them. Assumes nothing.
-use Prim.Native.Nat.{ℕ, _*_, _/_, _%_, _≤_, _<_}
-use mathlib.Core.Path.{_≡_, refl, sym, ap}
-use mathlib.Core.Bool.{Bool, true, false, not, _||_, true≢false}
-use mathlib.Core.List.{List, [], _∷_}
+-- A test of the rows told by a quotient, and what an answer says of the rows and of the output. Assumes nothing.
+use Prim.Native.Nat.{ℕ, _*_, _/_, _≤_, _<_}
+use mathlib.Core.Path.{_≡_, refl, sym}
+use mathlib.Core.Bool.{Bool, true, false, _||_, true≢false}
+use mathlib.Core.List.{List, _∷_}
 use mathlib.Core.Option.{Option, none, some}
 use native.Mathlib.Nat.{div-lt-iff-lt-mul}
 use native.Mathlib.Omega.{arith}
-use lib.Dec.{ltb, eqb}
+use lib.Dec.{ltb}
 use lib.Ieee.{Float}
 use lib.ListN.{length}
-use borrow.Author.Tests.{ltb-true, ltb-false, lt-ltb, le-ltb, eqb-true, eq-eqb, ne-eqb, not-false}
+use borrow.Author.Tests.{ltb-true, ltb-false, lt-ltb, le-ltb, eqb-true, not-false}
 use Rattle.base.specs.declared.Filling.{Filling}
 use Rattle.base.specs.Refusals.{Row, row, refusal, unless, filling}
 use Rattle.base.proofs.Counting.{same-test}
 use Rattle.color_lists.specs.Entries.{colours, ragged, crowded, written, rgb8ToLabRows, labToRgb8Rows, deltaERows, matrixRows, nearestRows}
 
-either-no : (a b : Bool) → (a || b) ≡ false → (a ≡ false) × (b ≡ false)
-either-no true b e = absurd (true≢false e)
-either-no false b e = (refl, e)
+-- ---- a square is more than room, told by a quotient
 
--- ---- tests of one list
-
-module _ {A : Type 0} (list : List A) where
-  pub ragged-told : {b : Bool} → not (eqb (length list % 3) 0) ≡ b → ragged list ≡ b
-  unfolding ragged
-  ragged-told e = e
-
-  pub ragged-yes : (length list % 3 ≡ 0 → ⊥) → ragged list ≡ true
-  ragged-yes n = ragged-told (ap not (ne-eqb (length list % 3) 0 n))
-
-  pub ragged-no : length list % 3 ≡ 0 → ragged list ≡ false
-  ragged-no e = ragged-told (ap not (eq-eqb (length list % 3) 0 e))
-
-pub crowded-told : (palette : List Float) {b : Bool} → ltb 256 (length palette / 3) ≡ b → crowded palette ≡ b
-unfolding crowded colours
-crowded-told palette e = e
-
--- a square is more than room, told by a quotient
 pub square-above : (n room : ℕ) → (n ≡ 0 → ⊥) → ltb (room / n) n ≡ ltb room (n * n)
 square-above n room d =
     let p : 0 < n = omega arith in
@@ -47,6 +27,10 @@ pub square-none : (n room : ℕ) → n ≡ 0 → false ≡ ltb room (n * n)
 square-none n room e = rw e (sym (le-ltb room (0 * 0) (omega arith)))
 
 -- ---- from the answer to the tests and the output
+
+either-no : (a b : Bool) → (a || b) ≡ false → (a ≡ false) × (b ≡ false)
+either-no true b e = absurd (true≢false e)
+either-no false b e = (refl, e)
 
 opened : (n : ℕ) (b : Bool) (rs : List Row) → Filling.Done ≡ filling (refusal (row n b ∷ rs)) → (b ≡ false) × (Filling.Done ≡ filling (refusal rs))
 unfolding refusal unless filling

@@ -1,12 +1,12 @@
 // The entries over lists of colours, three numbers for each colour. Each first works out its answer, and writes only if nothing is refused.
 ghost use mathlib.Core.Path.{_≡_};
-ghost use mathlib.Core.Bool.{_||_};
+ghost use mathlib.Core.List.{[], _∷_};
 ghost use Prim.Native.Nat.{_+_, _*_, _<_, _≤_};
 ghost use lib.Dec.{ltb};
 ghost use lib.IntN.{pos};
 ghost use lib.ListN.{length, set};
 ghost use Rattle.base.specs.Outputs.{filled};
-ghost use Rattle.base.specs.Refusals.{refusal, filling};
+ghost use Rattle.base.specs.Refusals.{row, refusal, filling};
 ghost use Rattle.color_lists.specs.Entries.{colours, strays, byteEntry, labAt, rgb8At, deltaAt, matrixAt, nearestAt, closer, bestOf};
 ghost use Rattle.color_lists.specs.Entries.{rgb8ToLabRows, rgb8ToLabOut, labToRgb8Rows, labToRgb8Out, deltaERows, deltaEOut, matrixRows, matrixOut, nearestRows, nearestOut};
 ghost use Rattle.channel.specs.Channel.{DecodeTable, ThresholdTable};
@@ -34,16 +34,6 @@ fn strays(list: &[f64]) -> bool
         i += 1;
     }
     false
-}
-
-// Whether a value of either list is out of range.
-fn either_strays(a: &[f64], b: &[f64]) -> bool
-    ensures { λ r. ⌜ r ≡ (strays (now (a .entry)) || strays (now (b .entry))) ⌝ }
-{
-    if strays(a) {
-        return true;
-    }
-    strays(b)
 }
 
 // The colour i of a list with three bytes for each colour.
@@ -78,17 +68,32 @@ fn put_rgb8(out: &mut [u8], i: usize, c: Rgb8)
     out[3 * i + 2] = c.b;
 }
 
+// The first row that applies: too short an output, lists of the wrong lengths, a value out of range, no entry to choose from.
+fn told(short: bool, uneven: bool, stray: bool, empty: bool) -> Filling
+    ensures { λ r. ⌜ r ≡ filling (refusal (row 2 short ∷ row 4 uneven ∷ row 5 stray ∷ row 8 empty ∷ [])) ⌝ }
+{
+    if short {
+        return Filling::Refused(2);
+    }
+    if uneven {
+        return Filling::Refused(4);
+    }
+    if stray {
+        return Filling::Refused(5);
+    }
+    if empty {
+        return Filling::Refused(8);
+    }
+    Filling::Done
+}
+
 // The answer of `rgb8_to_lab` for an output of the length room.
 fn rgb8_to_lab_answer(rgb8: &[u8], room: usize) -> Filling
     ensures { λ r. ⌜ r ≡ filling (refusal (rgb8ToLabRows (now (rgb8 .entry)) room)) ⌝ }
 {
-    if room < 3 * (rgb8.len() / 3) {
-        return Filling::Refused(2);
-    }
-    if rgb8.len() % 3 != 0 {
-        return Filling::Refused(4);
-    }
-    Filling::Done
+    let short = room < 3 * (rgb8.len() / 3);
+    let uneven = rgb8.len() % 3 != 0;
+    told(short, uneven, false, false)
 }
 
 fn fill_lab(table: &[u64], rgb8: &[u8], out: &mut [f64])
@@ -121,16 +126,9 @@ pub fn rgb8_to_lab(rgb8: &[u8], out: &mut [f64]) -> Filling
 fn lab_to_rgb8_answer(lab: &[f64], room: usize) -> Filling
     ensures { λ r. ⌜ r ≡ filling (refusal (labToRgb8Rows (now (lab .entry)) room)) ⌝ }
 {
-    if room < 3 * (lab.len() / 3) {
-        return Filling::Refused(2);
-    }
-    if lab.len() % 3 != 0 {
-        return Filling::Refused(4);
-    }
-    if strays(lab) {
-        return Filling::Refused(5);
-    }
-    Filling::Done
+    let short = room < 3 * (lab.len() / 3);
+    let uneven = lab.len() % 3 != 0;
+    told(short, uneven, strays(lab), false)
 }
 
 fn fill_rgb8(table: &[u64], lab: &[f64], out: &mut [u8])
@@ -163,16 +161,9 @@ pub fn lab_to_rgb8(lab: &[f64], out: &mut [u8]) -> Filling
 fn delta_e_answer(a: &[f64], b: &[f64], room: usize) -> Filling
     ensures { λ r. ⌜ r ≡ filling (refusal (deltaERows (now (a .entry)) (now (b .entry)) room)) ⌝ }
 {
-    if room < a.len() / 3 {
-        return Filling::Refused(2);
-    }
-    if a.len() % 3 != 0 || b.len() % 3 != 0 || a.len() != b.len() {
-        return Filling::Refused(4);
-    }
-    if either_strays(a, b) {
-        return Filling::Refused(5);
-    }
-    Filling::Done
+    let short = room < a.len() / 3;
+    let uneven = (a.len() % 3 != 0) | (b.len() % 3 != 0) | (a.len() != b.len());
+    told(short, uneven, strays(a) | strays(b), false)
 }
 
 fn fill_delta_e(a: &[f64], b: &[f64], out: &mut [f64])
@@ -214,16 +205,9 @@ fn matrix_answer(palette: &[f64], room: usize) -> Filling
     ensures { λ r. ⌜ r ≡ filling (refusal (matrixRows (now (palette .entry)) room)) ⌝ }
 {
     let n = palette.len() / 3;
-    if squared_above(n, room) {
-        return Filling::Refused(2);
-    }
-    if palette.len() % 3 != 0 || n > 256 {
-        return Filling::Refused(4);
-    }
-    if strays(palette) {
-        return Filling::Refused(5);
-    }
-    Filling::Done
+    let short = squared_above(n, room);
+    let uneven = (palette.len() % 3 != 0) | (n > 256);
+    told(short, uneven, strays(palette), false)
 }
 
 fn fill_matrix(palette: &[f64], out: &mut [f64])
@@ -294,19 +278,10 @@ fn nearest_answer(pixels: &[f64], palette: &[f64], room: usize) -> Filling
     ensures { λ r. ⌜ r ≡ filling (refusal (nearestRows (now (pixels .entry)) (now (palette .entry)) room)) ⌝ }
 {
     let n = pixels.len() / 3;
-    if room < n {
-        return Filling::Refused(2);
-    }
-    if pixels.len() % 3 != 0 || palette.len() % 3 != 0 || palette.len() / 3 > 256 {
-        return Filling::Refused(4);
-    }
-    if either_strays(pixels, palette) {
-        return Filling::Refused(5);
-    }
-    if n > 0 && palette.len() == 0 {
-        return Filling::Refused(8);
-    }
-    Filling::Done
+    let short = room < n;
+    let uneven = (pixels.len() % 3 != 0) | (palette.len() % 3 != 0) | (palette.len() / 3 > 256);
+    let empty = (n > 0) & (palette.len() == 0);
+    told(short, uneven, strays(pixels) | strays(palette), empty)
 }
 
 fn fill_nearest(pixels: &[f64], palette: &[f64], out: &mut [i32])

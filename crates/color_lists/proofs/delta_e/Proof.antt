@@ -23,15 +23,11 @@ same-length c = search needs
 
 returns : tie.Need-returns
 unfolding deltaEOut
-returns c =
-    let told = c .before .before .before .before .before .before .delta-e-answer .ensures in
-    (told, c .before .before .fill-delta-e .ensures ∙ wrote _ _ _ (sym (c .before .before .before .before .enum-told .given .1) ∙ told))
+returns c = (cc, c .before .before .fill-delta-e .ensures ∙ wrote _ _ _ (cc))
 
 returns-2 : tie.Need-returns-2
 unfolding deltaEOut
-returns-2 c =
-    let told = c .before .before .delta-e-answer .ensures in
-    (told, kept _ _ _ _ (sym (c .enum-told2 .given .1) ∙ told))
+returns-2 c = (cc, kept _ _ _ _ (sym (c .enum-told2 .given .1) ∙ c .before .before .delta-e-answer .ensures))
 
 pub delta-e-spec : {M : Type 1} → statement M
 delta-e-spec = tie.close (tie.spec delta-e-answer-requires enum-told fill-delta-e-requires enum-told-2 same-length returns returns-2)

@@ -19,9 +19,7 @@ slice-aggregate-fill-rgb8 : tie.Need-slice-aggregate-fill-rgb8
 slice-aggregate-fill-rgb8 c = search needs
 
 fill-rgb8-requires : tie.Need-fill-rgb8-requires
-fill-rgb8-requires c κs =
-    let d = c .before .before .before in
-    (c .before .before .threshold-table .ensures, lab-to-rgb8-room _ _ (sym (d .enum-told .given .1) ∙ d .before .before .lab-to-rgb8-answer .ensures))
+fill-rgb8-requires c κs = (c .before .before .threshold-table .ensures, lab-to-rgb8-room _ _ (cc))
 
 enum-told-2 : tie.Need-enum-told-2
 enum-told-2 c = search needs
@@ -31,15 +29,11 @@ same-length c = search needs
 
 returns : tie.Need-returns
 unfolding labToRgb8Out
-returns c =
-    let told = c .before .before .before .before .before .before .before .before .lab-to-rgb8-answer .ensures in
-    (told, c .before .before .fill-rgb8 .ensures ∙ wrote _ _ _ (sym (c .before .before .before .before .before .before .enum-told .given .1) ∙ told))
+returns c = (cc, c .before .before .fill-rgb8 .ensures ∙ wrote _ _ _ (cc))
 
 returns-2 : tie.Need-returns-2
 unfolding labToRgb8Out
-returns-2 c =
-    let told = c .before .before .lab-to-rgb8-answer .ensures in
-    (told, kept _ _ _ _ (sym (c .enum-told2 .given .1) ∙ told))
+returns-2 c = (cc, kept _ _ _ _ (sym (c .enum-told2 .given .1) ∙ c .before .before .lab-to-rgb8-answer .ensures))
 
 pub lab-to-rgb8-spec : {M : Type 1} → statement M
 lab-to-rgb8-spec = tie.close (tie.spec lab-to-rgb8-answer-requires enum-told threshold-table-requires slice-aggregate-fill-rgb8 fill-rgb8-requires enum-told-2 same-length returns returns-2)

@@ -13,7 +13,7 @@ enum-told : tie.Need-enum-told
 enum-told c = search needs
 
 fill-nearest-requires : tie.Need-fill-nearest-requires
-fill-nearest-requires c κs = nearest-room _ _ _ (sym (c .before .enum-told .given .1) ∙ c .before .before .before .nearest-answer .ensures)
+fill-nearest-requires c κs = nearest-room _ _ _ (cc)
 
 enum-told-2 : tie.Need-enum-told-2
 enum-told-2 c = search needs
@@ -23,15 +23,11 @@ same-length c = search needs
 
 returns : tie.Need-returns
 unfolding nearestOut
-returns c =
-    let told = c .before .before .before .before .before .nearest-answer .ensures in
-    (told, c .before .fill-nearest .ensures ∙ wrote _ _ _ (sym (c .before .before .before .enum-told .given .1) ∙ told))
+returns c = (cc, c .before .fill-nearest .ensures ∙ wrote _ _ _ (cc))
 
 returns-2 : tie.Need-returns-2
 unfolding nearestOut
-returns-2 c =
-    let told = c .before .before .nearest-answer .ensures in
-    (told, kept _ _ _ _ (sym (c .enum-told2 .given .1) ∙ told))
+returns-2 c = (cc, kept _ _ _ _ (sym (c .enum-told2 .given .1) ∙ c .before .before .nearest-answer .ensures))
 
 pub nearest-index-spec : {M : Type 1} → statement M
 nearest-index-spec = tie.close (tie.spec nearest-answer-requires enum-told fill-nearest-requires enum-told-2 same-length returns returns-2)

@@ -13,7 +13,7 @@ enum-told : tie.Need-enum-told
 enum-told c = search needs
 
 fill-matrix-requires : tie.Need-fill-matrix-requires
-fill-matrix-requires c κs = matrix-room _ _ (sym (c .before .enum-told .given .1) ∙ c .before .before .before .matrix-answer .ensures)
+fill-matrix-requires c κs = matrix-room _ _ (cc)
 
 enum-told-2 : tie.Need-enum-told-2
 enum-told-2 c = search needs
@@ -23,15 +23,11 @@ same-length c = search needs
 
 returns : tie.Need-returns
 unfolding matrixOut
-returns c =
-    let told = c .before .before .before .before .before .before .matrix-answer .ensures in
-    (told, c .before .before .fill-matrix .ensures ∙ wrote _ _ _ (sym (c .before .before .before .before .enum-told .given .1) ∙ told))
+returns c = (cc, c .before .before .fill-matrix .ensures ∙ wrote _ _ _ (cc))
 
 returns-2 : tie.Need-returns-2
 unfolding matrixOut
-returns-2 c =
-    let told = c .before .before .matrix-answer .ensures in
-    (told, kept _ _ _ _ (sym (c .enum-told2 .given .1) ∙ told))
+returns-2 c = (cc, kept _ _ _ _ (sym (c .enum-told2 .given .1) ∙ c .before .before .matrix-answer .ensures))
 
 pub palette-distance-matrix-spec : {M : Type 1} → statement M
 palette-distance-matrix-spec = tie.close (tie.spec matrix-answer-requires enum-told fill-matrix-requires enum-told-2 same-length returns returns-2)

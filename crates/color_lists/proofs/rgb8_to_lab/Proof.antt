@@ -19,9 +19,7 @@ slice-aggregate-fill-lab : tie.Need-slice-aggregate-fill-lab
 slice-aggregate-fill-lab c = search needs
 
 fill-lab-requires : tie.Need-fill-lab-requires
-fill-lab-requires c κs =
-    let d = c .before .before .before in
-    (c .before .before .decode-table .ensures, rgb8-to-lab-room _ _ (sym (d .enum-told .given .1) ∙ d .before .before .rgb8-to-lab-answer .ensures))
+fill-lab-requires c κs = (c .before .before .decode-table .ensures, rgb8-to-lab-room _ _ (cc))
 
 enum-told-2 : tie.Need-enum-told-2
 enum-told-2 c = search needs
@@ -31,15 +29,11 @@ same-length c = search needs
 
 returns : tie.Need-returns
 unfolding rgb8ToLabOut
-returns c =
-    let told = c .before .before .before .before .before .before .before .before .rgb8-to-lab-answer .ensures in
-    (told, c .before .before .fill-lab .ensures ∙ wrote _ _ _ (sym (c .before .before .before .before .before .before .enum-told .given .1) ∙ told))
+returns c = (cc, c .before .before .fill-lab .ensures ∙ wrote _ _ _ (cc))
 
 returns-2 : tie.Need-returns-2
 unfolding rgb8ToLabOut
-returns-2 c =
-    let told = c .before .before .rgb8-to-lab-answer .ensures in
-    (told, kept _ _ _ _ (sym (c .enum-told2 .given .1) ∙ told))
+returns-2 c = (cc, kept _ _ _ _ (sym (c .enum-told2 .given .1) ∙ c .before .before .rgb8-to-lab-answer .ensures))
 
 pub rgb8-to-lab-spec : {M : Type 1} → statement M
 rgb8-to-lab-spec = tie.close (tie.spec rgb8-to-lab-answer-requires enum-told decode-table-requires slice-aggregate-fill-lab fill-lab-requires enum-told-2 same-length returns returns-2)
