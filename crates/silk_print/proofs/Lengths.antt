@@ -15,7 +15,7 @@ use Rattle.color.specs.declared.Rgb8.{Rgb8}
 use Rattle.rules.specs.declared.Facts.{Facts}
 use Rattle.rules.specs.declared.LineIndex.{LineIndex}
 use Rattle.rules.specs.declared.LineIndex as line-index
-use Rattle.silk_text.specs.Reader.{codes, newline}
+use Rattle.cursor.specs.Reader.{codes, newline}
 use Rattle.silk_print.specs.Print.{numeral, signedNumeral, hexByte, hexColour, each, numberText, indexText, clippedText, sizesText, headText, colourText, cellText, cellsText, rowText, rowsText, coloursText, resultText, roomFor, Sized}
 use Rattle.silk_print.specs.Claims.{RoomEnough, SheetRoom}
 use Rattle.silk_print.proofs.Digits.{numeral-short}

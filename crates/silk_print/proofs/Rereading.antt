@@ -17,12 +17,12 @@ use Rattle.hex.specs.Hex.{space, mark, skip, trim, digit, allDigits, pair, sixD
 use Rattle.color.specs.declared.Rgb8.{Rgb8}
 use Rattle.hex.specs.declared.Hex.the-variants.{Colour}
 use Rattle.hex.proofs.Digits.{space-no, digit-decimal, digit-small}
-use Rattle.silk_text.specs.Reader.{got, chain, _>>=_, _>>_, give, codes, bytes, newline, front, run, inLine, isDigit, value, proper, numberOf, number, natural, minus, negative, atMinus, cell, cellAt}
-use Rattle.silk_text.specs.Format.{hexOf, hexLine, colourLine}
+use Rattle.cursor.specs.Reader.{got, chain, _>>=_, _>>_, give, codes, bytes, newline, front, run, inLine, isDigit, value, proper, numberOf, number, natural, minus, negative, atMinus, cell, cellAt}
+use Rattle.cursor.specs.Lines.{hexOf, hexLine, colourLine}
 use Rattle.silk_print.specs.Claims.{InBytes}
 use Rattle.silk_print.specs.Print.{numeral, signedNumeral, cellText, hexDigit, hexByte, hexColour, colourText}
 use Rattle.silk_print.proofs.Digits.{numeral-one, numeral-more, more-length, numeral-short, hex-low, hex-high}
-use Rattle.silk_text.proofs.Scanning.{digit-in, proper-one, proper-some}
+use Rattle.cursor.proofs.Scanning.{digit-in, proper-one, proper-some}
 
 -- ---- the digits of a number
 

@@ -13,11 +13,12 @@ use Rattle.base.proofs.Counting.{count-le}
 use Rattle.channel.specs.Channel.{thresholdOf, byteOf}
 use Rattle.color.specs.Lab.{entry, labToRgb8, matVec, rgbFromXyz, xyzOfLab}
 use Rattle.color.specs.declared.Lab.{Lab}
-use Rattle.silk_text.specs.Reader.{got, Reader, chain, _>>=_, give, newline, codes, series, number, cellAt, line, numberLine}
-use Rattle.silk_text.specs.Format.{colourLine, colours, rowLine, rows}
+use Rattle.cursor.specs.Reader.{got, Reader, chain, _>>=_, give, newline, codes, series, number, cellAt, line, numberLine}
+use Rattle.cursor.specs.Lines.{colourLine}
+use Rattle.silk_text.specs.Format.{colours, rowLine, rows}
 use Rattle.silk_print.specs.Print.{numeral, cellText, cellsText, numberText, colourText, coloursText, rowText, rowsText, each}
 use Rattle.silk_print.specs.Claims.{Reread, InBytes, NumberReread, ColourReread, RowReread, ColoursReread, RowsReread, ListsReread}
-use Rattle.silk_text.proofs.Chaining.{line-yes}
+use Rattle.cursor.proofs.Chaining.{line-yes}
 use Rattle.silk_print.proofs.Printing.{eachFrom}
 use Rattle.silk_print.proofs.Rereading.{Stops, number-back, cell-at-back, comma-stops, line-stops, bytes-back, colour-back}
 use Rattle.silk_text.proofs.Whole.{row-fits, lists-yes}

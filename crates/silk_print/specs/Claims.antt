@@ -10,9 +10,10 @@ use Rattle.color.specs.Lab.{entry, labToRgb8}
 use Rattle.color.specs.declared.Rgb8.{Rgb8}
 use Rattle.rules.specs.declared.Facts.{Facts}
 use Rattle.rules.specs.declared.LineIndex as line-index
-use Rattle.silk_text.specs.Reader.{got, Reader, numberLine}
-use Rattle.silk_text.specs.Format.{colourLine, doubles, colours, rowLine, rows, lists}
-use Rattle.silk_text.specs.declared.head.Head.{Head}
+use Rattle.cursor.specs.Reader.{got, Reader, numberLine}
+use Rattle.cursor.specs.Lines.{colourLine}
+use Rattle.silk_text.specs.Format.{doubles, colours, rowLine, rows, lists}
+use Rattle.cursor.specs.declared.head.Head.{Head}
 use Rattle.silk_print.specs.Print.{numberText, colourText, coloursText, rowText, rowsText, resultText, roomFor, Sized}
 
 -- a reader takes x from the front of whatever begins with the text

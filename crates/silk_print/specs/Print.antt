@@ -13,7 +13,7 @@ use Rattle.color.specs.declared.Rgb8.{Rgb8}
 use Rattle.rules.specs.declared.LineIndex.{LineIndex}
 use Rattle.rules.specs.declared.LineIndex as line-index
 use Rattle.rules.specs.declared.Facts.{Facts}
-use Rattle.silk_text.specs.Reader.{codes, newline}
+use Rattle.cursor.specs.Reader.{codes, newline}
 use Rattle.silk_text.specs.Answers.{laid}
 use Rattle.silk_print.specs.declared.Printed.{Printed}
 use Rattle.silk_print.specs.declared.Printed.the-variants.{Bytes, Refused}

@@ -15,10 +15,11 @@ use Rattle.color.specs.declared.Rgb8.{Rgb8}
 use Rattle.rules.specs.Rows.{tooLarge, tooShort, cramped, badPalette}
 use Rattle.rules.specs.Sheet.{needed}
 use Rattle.silk_text.specs.Answers.{laid, lent}
-use Rattle.silk_text.specs.Format.{doubles, colourLine, colours, rows, File, lists, file, ended, most, parse, head}
-use Rattle.silk_text.specs.Reader.{Got, got, refused, Reader, chain, _>>=_, give, series}
-use Rattle.silk_text.specs.declared.head.Head.{Head}
-use Rattle.silk_text.proofs.Chaining.{chain-first}
+use Rattle.cursor.specs.Lines.{colourLine, head}
+use Rattle.silk_text.specs.Format.{doubles, colours, rows, File, lists, file, ended, most, parse}
+use Rattle.cursor.specs.Reader.{Got, got, refused, Reader, chain, _>>=_, give, series}
+use Rattle.cursor.specs.declared.head.Head.{Head}
+use Rattle.cursor.proofs.Chaining.{chain-first}
 use Rattle.silk_text.proofs.Laying.{laid-length}
 use Rattle.silk_text.proofs.Repeating.{series-length}
 use Rattle.silk_text.proofs.Whole.{Bounded, head-is, lent-got}

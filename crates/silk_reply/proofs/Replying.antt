@@ -15,8 +15,8 @@ use Rattle.run_checks.proofs.Refusing.{Call}
 use Rattle.silk_text.specs.Answers.{readInto, lent}
 use Rattle.silk_text.specs.Format.{File, parse}
 use Rattle.silk_print.specs.Print.{resultText, refusalText, resultFits, printedAnswer, printedBuffer}
-use Rattle.silk_text.specs.Reader.{Got}
-use Rattle.silk_text.specs.declared.head.Head.{Head}
+use Rattle.cursor.specs.Reader.{Got}
+use Rattle.cursor.specs.declared.head.Head.{Head}
 use Rattle.silk_print.specs.declared.Printed.{Printed}
 use Rattle.silk_reply.specs.Reply.{noColours, noCells, workSize, Ran, Front, answerText, sheetText, gotText, silkText, counted}
 use Rattle.silk_reply.proofs.Fitting.{printed}

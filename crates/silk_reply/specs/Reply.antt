@@ -15,8 +15,8 @@ use Rattle.rules.specs.declared.Processing.the-variants.{Processed, Refused}
 use Rattle.silk_text.specs.Answers.{laid, lent}
 use Rattle.silk_text.specs.Format.{File, parse}
 use Rattle.silk_print.specs.Print.{resultText, refusalText}
-use Rattle.silk_text.specs.Reader.{Got, got, refused}
-use Rattle.silk_text.specs.declared.head.Head.{Head}
+use Rattle.cursor.specs.Reader.{Got, got, refused}
+use Rattle.cursor.specs.declared.head.Head.{Head}
 use Rattle.silk_print.specs.declared.Printed
 use Rattle.silk_print.specs.declared.Printed.{Printed}
 

@@ -4,12 +4,12 @@ ghost use lib.ListN.{length};
 ghost use Rattle.silk_text.specs.Answers.{laid};
 ghost use Rattle.silk_print.specs.Print.{refusalText};
 ghost use Rattle.silk_reply.specs.Reply.{sheetText, silkText, Ran, Front, counted};
+use cursor::head::Head;
 use postprocess::run;
 use rules::Processing;
 use silk_print::Printed;
 use silk_print::print_refusal;
 use silk_print::print_result;
-use silk_text::head::Head;
 use silk_text::sheet::Parsed;
 use silk_text::sheet::read;
 

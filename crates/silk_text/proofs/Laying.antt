@@ -6,9 +6,9 @@ use native.Mathlib.Nat.{add-zero, add-assoc}
 use native.Mathlib.Omega.{arith}
 use lib.ListN.{length, take, drop, set, length-append, length-drop, take-append-drop}
 use lib.Seq.{take-at, drop-append-add, drop-drop, length-take-le, sets, sets-eq}
-use Rattle.silk_text.specs.Reader.{Got, got, refused, Reader, chain, _>>=_, give}
+use Rattle.cursor.specs.Reader.{Got, got, refused, Reader, chain, _>>=_, give}
 use Rattle.silk_text.specs.Answers.{laid, onto}
-use Rattle.silk_text.proofs.Chaining.{chain-first}
+use Rattle.cursor.proofs.Chaining.{chain-first}
 
 module _ {A : Type 0} where
   pub laid-none : (at : ℕ) (old : List A) → old ≡ laid at [] old

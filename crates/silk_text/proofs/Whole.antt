@@ -14,11 +14,12 @@ use lib.ListN.{length, take, drop, length-append, length-take, length-drop}
 use borrow.Author.Tests.{ltb-false, le-leb, lt-leb}
 use Rattle.base.specs.Refusals.{refusal, unless}
 use Rattle.base.proofs.Counting.{case}
-use Rattle.silk_text.specs.Reader.{Got, got, refused, chain, _>>=_, _>>_, give, bytes, newline, codes, series, cellAt, line}
-use Rattle.silk_text.specs.Format.{sizes, passes, outlineLine, options, headOf, judged, headEnd, head, colours, rowLine, rows, File, lists, file, ended, most, parse}
+use Rattle.cursor.specs.Reader.{Got, got, refused, chain, _>>=_, _>>_, give, bytes, newline, codes, series, cellAt, line}
+use Rattle.cursor.specs.Lines.{sizes, passes, outlineLine, options, headOf, judged, headEnd, head}
+use Rattle.silk_text.specs.Format.{colours, rowLine, rows, File, lists, file, ended, most, parse}
 use Rattle.silk_text.specs.Answers.{laid, lent, readInto}
-use Rattle.silk_text.specs.declared.head.Head.{Head}
-use Rattle.silk_text.proofs.Chaining.{chain-first}
+use Rattle.cursor.specs.declared.head.Head.{Head}
+use Rattle.cursor.proofs.Chaining.{chain-first}
 use Rattle.silk_text.proofs.Repeating.{series-length}
 
 -- sizes that are not refused

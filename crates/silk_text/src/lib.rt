@@ -1,4 +1,2 @@
 // Reading the text of the program `silk`.
-pub mod cursor;
-pub mod head;
 pub mod sheet;

@@ -2,17 +2,17 @@
 ghost use mathlib.Core.Path.{_≡_};
 ghost use Prim.Native.Nat.{_+_, _*_, _≤_, _<_};
 ghost use lib.ListN.{length, take, drop};
-ghost use Rattle.silk_text.specs.Reader.{series, cellAt};
-ghost use Rattle.silk_text.specs.Format.{colourLine, doubles, rowLine, rows, lists, file, most};
-ghost use Rattle.silk_text.specs.Answers.{coloured, celled, laid, onto, filledTo, steppedTo, lent, filed, parsed, readInto};
-use super::cursor::Cell;
-use super::cursor::Colour;
-use super::cursor::Cursor;
-use super::cursor::Step;
-use super::head::Head;
-use super::head::HeadRead;
+ghost use Rattle.cursor.specs.Reader.{series, cellAt};
+ghost use Rattle.silk_text.specs.Format.{doubles, rowLine, rows, lists, file, most};
+ghost use Rattle.silk_text.specs.Answers.{laid, onto, filledTo, steppedTo, lent, filed, parsed, readInto};
 use color::Rgb8;
 use color::cielab::rgb8_to_lab_one;
+use cursor::Cell;
+use cursor::Colour;
+use cursor::Cursor;
+use cursor::Step;
+use cursor::head::Head;
+use cursor::head::HeadRead;
 
 // What reading into a lent list comes to.
 pub enum Reading {
@@ -24,30 +24,6 @@ pub enum Reading {
 pub enum Parsed {
     Sheet(Head),
     Refused(u8),
-}
-
-impl Cursor {
-    fn colour_line(self, text: &[u8]) -> Colour
-        ensures { λ r. ⌜ coloured (now (text .entry)) r ≡ colourLine (drop (self .at) (now (text .entry))) ⌝ }
-    {
-        let Step::To(next) = self.bytes(text, b"colour=") else {
-            return Colour::Refused(10);
-        };
-        next.hex_line(text)
-    }
-
-    // The cell of column x, after a comma unless it is the first.
-    fn cell_at(self, text: &[u8], x: usize) -> Cell
-        ensures { λ r. ⌜ celled (now (text .entry)) r ≡ cellAt x (drop (self .at) (now (text .entry))) ⌝ }
-    {
-        if x == 0 {
-            return self.cell(text);
-        }
-        let Step::To(next) = self.bytes(text, b",") else {
-            return Cell::Malformed;
-        };
-        next.cell(text)
-    }
 }
 
 // Puts a colour at entry i of a palette.

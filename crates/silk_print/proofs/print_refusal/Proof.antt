@@ -1,7 +1,7 @@
 -- `print_refusal` meets its contract. Assumes nothing.
 use borrow.Author.Needs.{needs}
 use native.Mathlib.Omega.{arith}
-use Rattle.silk_text.specs.Reader.{codes, newline}
+use Rattle.cursor.specs.Reader.{codes, newline}
 use Rattle.silk_print.specs.Print.{numberText, refusalText, refusalFits}
 use borrow.Author.Tests.{le-leb, lt-leb}
 use Rattle.silk_print.proofs.Printing.{put-room, third-room, put-three}

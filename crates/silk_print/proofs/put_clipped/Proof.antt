@@ -1,7 +1,7 @@
 -- `put_clipped` meets its contract. Assumes nothing.
 use borrow.Author.Needs.{needs}
 use native.Mathlib.Omega.{arith}
-use Rattle.silk_text.specs.Reader.{codes}
+use Rattle.cursor.specs.Reader.{codes}
 use Rattle.silk_print.specs.Print.{clippedText}
 use Rattle.silk_print.proofs.put_clipped.Statement.{statement}
 use Rattle.silk_print.proofs.put_clipped.Tie as tie

@@ -1,6 +1,6 @@
 -- `put_colour_line` meets its contract. Assumes nothing.
 use borrow.Author.Needs.{needs}
-use Rattle.silk_text.specs.Reader.{codes, newline}
+use Rattle.cursor.specs.Reader.{codes, newline}
 use Rattle.silk_print.specs.Print.{colourText}
 use Rattle.silk_print.proofs.Printing.{put-room, third-room, put-three}
 use Rattle.silk_print.proofs.put_colour_line.Statement.{statement}

@@ -2,7 +2,7 @@
 use borrow.Author.Needs.{needs}
 use native.Mathlib.Omega.{arith}
 use mathlib.Core.Path.{refl}
-use Rattle.silk_text.specs.Reader.{codes}
+use Rattle.cursor.specs.Reader.{codes}
 use Rattle.silk_print.specs.Print.{indexText}
 use Rattle.silk_print.proofs.Printing.{put-as}
 use Rattle.silk_print.proofs.put_index.Statement.{statement}

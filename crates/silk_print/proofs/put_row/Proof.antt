@@ -2,7 +2,7 @@
 use borrow.Author.Needs.{needs}
 use native.Mathlib.Omega.{arith}
 use mathlib.Core.Path.{refl}
-use Rattle.silk_text.specs.Reader.{codes, newline}
+use Rattle.cursor.specs.Reader.{codes, newline}
 use Rattle.silk_print.specs.Print.{rowText}
 use Rattle.silk_print.proofs.Printing.{put-as, put-room, third-room, put-three}
 use Rattle.silk_print.proofs.put_row.Statement.{statement}

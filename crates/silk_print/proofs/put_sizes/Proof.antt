@@ -1,7 +1,7 @@
 -- `put_sizes` meets its contract. Assumes nothing.
 use borrow.Author.Needs.{needs}
 use native.Mathlib.Omega.{arith}
-use Rattle.silk_text.specs.Reader.{codes}
+use Rattle.cursor.specs.Reader.{codes}
 use Rattle.silk_print.specs.Print.{sizesText}
 use Rattle.silk_print.proofs.Printing.{put-room, third-room, put-three}
 use Rattle.silk_print.proofs.put_sizes.Statement.{statement}

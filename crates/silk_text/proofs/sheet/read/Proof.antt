@@ -4,7 +4,7 @@ use mathlib.Core.Path.{sym}
 use mathlib.Core.Logic.{inl, inr}
 use native.Mathlib.Omega.{arith}
 use Rattle.silk_text.specs.Answers.{filed, parsed}
-use Rattle.silk_text.proofs.Chaining.{known}
+use Rattle.cursor.proofs.Chaining.{known}
 use Rattle.silk_text.proofs.Whole.{into-narrow, into-short, into-no, into-over, into-yes}
 use Rattle.silk_text.proofs.sheet.read.Statement.{statement}
 use Rattle.silk_text.proofs.sheet.read.Tie as tie

@@ -5,9 +5,10 @@ use mathlib.Core.Path.{refl}
 use mathlib.Core.List.{[], _∷_}
 use native.Mathlib.Omega.{arith}
 use lib.ListN.{drop}
-use Rattle.silk_text.specs.Reader.{chain, _>>=_, give, cellAt}
-use Rattle.silk_text.specs.Answers.{celled, onto, steppedTo}
-use Rattle.silk_text.proofs.Chaining.{known}
+use Rattle.cursor.specs.Reader.{chain, _>>=_, give, cellAt}
+use Rattle.cursor.specs.Answers.{celled}
+use Rattle.silk_text.specs.Answers.{onto, steppedTo}
+use Rattle.cursor.proofs.Chaining.{known}
 use Rattle.silk_text.proofs.Repeating.{Going, going-none, going-more, going-refused, going-all, singles}
 use Rattle.silk_text.proofs.Laying.{laid-one}
 use mir.Syntax.{w32}

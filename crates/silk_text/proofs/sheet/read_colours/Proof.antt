@@ -4,10 +4,12 @@ use Prim.Native.Nat.{_-_}
 use mathlib.Core.Path.{refl}
 use native.Mathlib.Omega.{arith}
 use lib.ListN.{drop}
-use Rattle.silk_text.specs.Reader.{chain, _>>=_, give}
-use Rattle.silk_text.specs.Format.{colourLine, doubles, colours}
-use Rattle.silk_text.specs.Answers.{coloured, onto, filledTo}
-use Rattle.silk_text.proofs.Chaining.{known}
+use Rattle.cursor.specs.Reader.{chain, _>>=_, give}
+use Rattle.cursor.specs.Lines.{colourLine}
+use Rattle.silk_text.specs.Format.{doubles, colours}
+use Rattle.cursor.specs.Answers.{coloured}
+use Rattle.silk_text.specs.Answers.{onto, filledTo}
+use Rattle.cursor.proofs.Chaining.{known}
 use Rattle.silk_text.proofs.Repeating.{Going, going-none, going-more, going-refused, going-all}
 use Rattle.silk_text.proofs.sheet.read_colours.Statement.{statement}
 use Rattle.silk_text.proofs.sheet.read_colours.Tie as tie

@@ -2,10 +2,11 @@
 use borrow.Author.Needs.{needs}
 use mathlib.Core.Path.{sym}
 use native.Mathlib.Omega.{arith}
-use Rattle.silk_text.specs.Reader.{chain, _>>=_}
+use Rattle.cursor.specs.Reader.{chain, _>>=_}
 use Rattle.silk_text.specs.Format.{file}
-use Rattle.silk_text.specs.Answers.{headed, filed}
-use Rattle.silk_text.proofs.Chaining.{known}
+use Rattle.cursor.specs.Answers.{headed}
+use Rattle.silk_text.specs.Answers.{filed}
+use Rattle.cursor.proofs.Chaining.{known}
 use Rattle.silk_text.proofs.Whole.{head-is, area, lent-no}
 use Rattle.silk_text.proofs.sheet.read_file.Statement.{statement}
 use Rattle.silk_text.proofs.sheet.read_file.Tie as tie

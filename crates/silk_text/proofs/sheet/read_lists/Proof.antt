@@ -3,7 +3,7 @@ use borrow.Author.Needs.{needs}
 use mathlib.Core.Path.{sym}
 use native.Mathlib.Omega.{arith}
 use Rattle.silk_text.specs.Answers.{filledTo, steppedTo, filed}
-use Rattle.silk_text.proofs.Chaining.{known}
+use Rattle.cursor.proofs.Chaining.{known}
 use Rattle.silk_text.proofs.Laying.{onto-got, onto-no}
 use Rattle.silk_text.proofs.Whole.{lists-no-colours, lists-no-rows, lists-yes, lent-no, lent-yes}
 use Rattle.silk_text.proofs.sheet.read_lists.Statement.{statement}

@@ -2,10 +2,11 @@
 use borrow.Author.Needs.{needs}
 use mathlib.Core.Path.{sym}
 use native.Mathlib.Omega.{arith}
-use Rattle.silk_text.specs.Reader.{newline, codes}
+use Rattle.cursor.specs.Reader.{newline, codes}
 use Rattle.silk_text.specs.Format.{rowLine}
-use Rattle.silk_text.specs.Answers.{stepped, steppedTo}
-use Rattle.silk_text.proofs.Chaining.{known, line-no-key, line-no-value, line-no-end, line-yes}
+use Rattle.cursor.specs.Answers.{stepped}
+use Rattle.silk_text.specs.Answers.{steppedTo}
+use Rattle.cursor.proofs.Chaining.{known, line-no-key, line-no-value, line-no-end, line-yes}
 use Rattle.silk_text.proofs.Laying.{onto-got, onto-no, onto-yes, onto-not}
 use Rattle.silk_text.proofs.sheet.read_row.Statement.{statement}
 use Rattle.silk_text.proofs.sheet.read_row.Tie as tie

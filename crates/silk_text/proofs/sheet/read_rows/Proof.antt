@@ -5,10 +5,10 @@ use mathlib.Core.Path.{sym, _∙_}
 use native.Mathlib.Nat.{zero-add}
 use native.Mathlib.Omega.{arith}
 use lib.ListN.{drop}
-use Rattle.silk_text.specs.Reader.{chain, _>>=_, give}
+use Rattle.cursor.specs.Reader.{chain, _>>=_, give}
 use Rattle.silk_text.specs.Format.{rowLine, rows}
 use Rattle.silk_text.specs.Answers.{steppedTo}
-use Rattle.silk_text.proofs.Chaining.{known}
+use Rattle.cursor.proofs.Chaining.{known}
 use Rattle.silk_text.proofs.Repeating.{Going, going-none, going-more, going-refused, going-all}
 use Rattle.silk_text.proofs.Laying.{onto-got, onto-no, onto-yes, onto-not}
 use Rattle.silk_text.proofs.Whole.{row-length, row-end, row-fits}

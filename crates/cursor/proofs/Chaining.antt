@@ -1,0 +1,43 @@
+-- What an answer says of a reading, and what a chain of readings has read. Assumes nothing.
+use Prim.Native.Nat.{ℕ}
+use mathlib.Core.Path.{_≡_, refl, sym, ap, _∙_}
+use mathlib.Core.List.{List}
+use native.Mathlib.Omega.{arith}
+use Rattle.cursor.specs.Reader.{Got, got, refused, Reader, chain, _>>=_, _>>_, give, bytes, newline, line}
+
+-- an answer that means g, and is s, gives what s means
+pub known : {R A : Type 0} (f : R → Got A) {r s : R} {g : Got A} → f r ≡ g → r ≡ s → g ≡ f s
+known f e q = sym e ∙ ap f q
+
+-- what a chain that got something read first
+pub record First {A B : Type 0} (g : Got A) (f : A → Reader B) (x : B) (end : List ℕ) : Type 0 where
+  pub value : A
+  pub rest : List ℕ
+  pub read : g ≡ got value rest
+  pub then : f value rest ≡ got x end
+
+pub chain-first : {A B : Type 0} (g : Got A) (f : A → Reader B) {x : B} {end : List ℕ} → chain g f ≡ got x end → First g f x end
+unfolding chain
+chain-first (got y rest) f e = record { value = y; rest = rest; read = refl; then = e }
+chain-first (refused n) f e = let z : _≡_ {A = ℕ} 0 1 = cc in absurd (omega arith)
+
+-- ---- a line, by what its key, its value and its end come to
+
+module _ {A : Type 0} (key : List ℕ) (p : Reader A) (text : List ℕ) where
+  pub line-no-key : {n : ℕ} → bytes key text ≡ refused n → line key p text ≡ refused n
+  unfolding line _>>_ chain
+  line-no-key e = rw e
+
+  module _ {r : List ℕ} (e : bytes key text ≡ got tt r) where
+    pub line-no-value : {n : ℕ} → p r ≡ refused n → line key p text ≡ refused n
+    unfolding line _>>_ _>>=_ chain
+    line-no-value f = rw (e, f)
+
+    module _ {x : A} {s : List ℕ} (f : p r ≡ got x s) where
+      pub line-no-end : {n : ℕ} → bytes newline s ≡ refused n → line key p text ≡ refused n
+      unfolding line _>>_ _>>=_ chain
+      line-no-end g = rw (e, f, g)
+
+      pub line-yes : {end : List ℕ} → bytes newline s ≡ got tt end → line key p text ≡ got x end
+      unfolding line _>>_ _>>=_ chain give
+      line-yes g = rw (e, f, g)

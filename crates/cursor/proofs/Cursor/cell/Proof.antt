@@ -1,0 +1,35 @@
+-- `Cursor::cell` meets its contract. Assumes nothing.
+use mathlib.Core.Path.{sym, ap, _∙_}
+use native.Mathlib.Omega.{arith}
+use lib.Seq.{drop-drop}
+use Rattle.cursor.specs.Reader.{cell, negative}
+use Rattle.cursor.proofs.Scanning.{minus-inside}
+use Rattle.cursor.proofs.Cursor.cell.Statement.{statement}
+use Rattle.cursor.proofs.Cursor.cell.Tie as tie
+
+at-minus-requires : tie.Need-at-minus-requires
+at-minus-requires c κs = tt
+
+add-next : tie.Need-add-next
+add-next c =
+    let a = c .before .before .before .before .args in
+    omega (arith, minus-inside (a .text .now) (a .self .at) (sym (c .before .before .at-minus .ensures) ∙ c .before .if1 .taken))
+
+negative-requires : tie.Need-negative-requires
+negative-requires c κs = tt
+
+natural-requires : tie.Need-natural-requires
+natural-requires c κs = tt
+
+returns : tie.Need-returns
+unfolding cell
+returns c =
+    let a = c .before .before .before .before .before .args in
+    rw (sym (c .before .before .before .at-minus .ensures) ∙ c .before .before .if1 .taken) (c .negative .ensures ∙ ap negative (sym (drop-drop 1 (a .self .at) (a .text .now))))
+
+returns-2 : tie.Need-returns-2
+unfolding cell
+returns-2 c = rw (sym (c .before .before .at-minus .ensures) ∙ c .before .if1 .left) (c .natural .ensures)
+
+pub cell-spec : {M : Type 1} → statement M
+cell-spec = tie.close (tie.spec at-minus-requires add-next negative-requires natural-requires returns returns-2)

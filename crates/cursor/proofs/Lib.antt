@@ -1,0 +1,3 @@
+pub mod Chaining
+pub mod Scanning
+pub mod Signs
