@@ -11,19 +11,19 @@ use native.Mathlib.Omega.{arith}
 use borrow.Author.Tests.{lt-ltb}
 use lib.Dec.{eqb, ltb, lit<}
 use lib.IntN.{ℤ}
-use lib.ListN.{length, set, length-set}
+use lib.ListN.{length, getD, set, length-set}
 use Rattle.base.specs.Places.{count}
 use Rattle.base.proofs.Counting.{case, clash, right, count-same, count-le}
 use Rattle.rules.specs.Regions.{at, opaque, link, roots, root, first}
 use Rattle.rules.specs.Grid.{stepTo}
 use Rattle.rules.specs.Masks.{labelAt, regions}
-use Rattle.rules.proofs.Roots.{link-same, link-adj, to-link}
+use Rattle.rules.proofs.Roots.{link-same, link-adj, link-right, to-link}
 use Rattle.grid.specs.declared.Tally.{Tally}
 use Rattle.grid.specs.Steps.{hood}
 use Rattle.grid.specs.Planes.{plane, paintOf, cellOf, cellsOf, groupAt, endOf, Labelled}
-use Rattle.grid.specs.Filling.{Sized, blanks, joined, Right, Ordered, Ended, Filled, Shut, Waits, Flood, Tinted, Passed, Kept, Since, Visited, wordOf, Cleared}
-use Rattle.grid.proofs.Places.{rowsOf, colsOf, hop, hop-in, hood-sound, hood-complete, some-inj}
-use Rattle.grid.proofs.Planes.{plane-same, plane-else, plane-other, cells-at, cells-paint, opaque-paint}
+use Rattle.grid.specs.Filling.{Sized, blanks, joined, Right, Ordered, Ended, Filled, Shut, Waits, Flood, Begun, Alone, Tinted, Passed, Kept, Since, Visited, wordOf, Cleared}
+use Rattle.grid.proofs.Places.{rowsOf, colsOf, hop, hop-in, hood-four, hood-eight, hood-sound, hood-complete, some-inj, After, eight-after, four-after}
+use Rattle.grid.proofs.Planes.{plane-read, plane-same, plane-else, plane-other, cells-at, cells-paint, opaque-paint}
 use Rattle.grid.proofs.Filling.{Put, room-left, put-since, at-old, at-new, sheet-kept, since-refl, since-trans, clear-label, link-label, first-next, not-first, first-number, root-is-first, clear-not-first, labelled-opaque, next-root, old-not-first, symm, len, put-here, filled-put}
 
 -- ---- the turns of `visit_all`
@@ -183,6 +183,11 @@ refilled : {h w steps : ℕ} {work : List ℕ} {done : ℕ} {t : Tally} {Open Ne
     ((p q : ℕ) → p < h * w → q < h * w → link (hood steps w) (cellsOf (h * w) work) p q ≡ true → Open p → (plane (h * w) 1 work q ≡ 0 → ⊥) ⊎ New p) → Filled h w steps work done t New
 refilled f g = record { sized = f .sized; labels = fewer (f .labels) g; order = f .order; ended = f .ended; under = f .under }
 
+-- linked places have one paint
+link-paint : (adj : ℕ → ℕ → Bool) (n : ℕ) (work : List ℕ) (p q : ℕ) → p < n → q < n → link adj (cellsOf n work) p q ≡ true → plane n 0 work q ≡ plane n 0 work p
+link-paint adj n work p q lp lq k =
+    sym (cells-paint n work q lq) ∙ ap paintOf (sym (link-same adj (cellsOf n work) p q k)) ∙ cells-paint n work p lp
+
 -- all neighbours are done: on to the next place that waits
 pub turn-off : {h w steps : ℕ} {work₀ : List ℕ} {t₀ : Tally} {head p k : ℕ} {work : List ℕ} {t : Tally} → Turn h w steps work₀ t₀ head p k work t → head < t₀ .taken → steps ≤ k → Flood h w steps work (head + 1) t
 turn-off {h = h} {w = w} {steps = steps} {head = head} {p = p} {work = work} {t = t} u lh all = record {
@@ -196,15 +201,65 @@ turn-off {h = h} {w = w} {steps = steps} {head = head} {p = p} {work = work} {t 
         elim (ℕ-discrete (a .at) head) [
           | yes e ↦ (let z : r ≡ p = sym (a .is) ∙ ap (plane (h * w) 2 work) e ∙ u .is in
               let c = hood-complete steps (u .flood .filled .sized .count) h w r q lq (link-adj (hood steps w) (cellsOf (h * w) work) r q k) in
-              let same : plane (h * w) 0 work q ≡ plane (h * w) 0 work r =
-              sym (cells-paint (h * w) work q lq) ∙ ap paintOf (sym (link-same (hood steps w) (cellsOf (h * w) work) r q k)) ∙ cells-paint (h * w) work r lr in
-              inl (u .done (c .0) q (omega (arith, c .1)) (subst (λ (x : ℕ). hop h w x (c .0) ≡ some q) z (c .2)) (same ∙ ap (plane (h * w) 0 work) z)))
+              inl (u .done (c .0) q (omega (arith, c .1)) (subst (λ (x : ℕ). hop h w x (c .0) ≡ some q) z (c .2)) (link-paint (hood steps w) (h * w) work r q lr lq k ∙ ap (plane (h * w) 0 work) z)))
           | no ne ↦ inr (record { at = a .at; low = omega (arith, a .low); high = a .high; is = a .is })
         ]
 
 -- nothing waits: the region is whole
 pub whole : {h w steps : ℕ} {work : List ℕ} {head : ℕ} {t : Tally} → Flood h w steps work head t → t .taken ≤ head → Filled h w steps work (t .regions - 1) t Shut
 whole f le = refilled (f .filled) (λ p q lp lq k a. absurd (omega (arith, a .low, a .high)))
+
+-- ---- a region of one cell
+
+-- the words of the neighbours after s, none of which is the one asked for
+module _ (n w steps s word : ℕ) (work : List ℕ) (pw : 0 < w) (next : getD work (n + s + 1) 0 ≡ word → ⊥) (below : getD work (n + s + w) 0 ≡ word → ⊥) where
+  unread : (q i : ℕ) → i ≡ n + q → (getD work i 0 ≡ word → ⊥) → plane n 1 work q ≡ word → ⊥
+  unread q i e f z = f (plane-read n 1 q i work (omega arith) ∙ z)
+
+  pub alone-four : steps ≡ 4 → Alone n w steps work s word
+  alone-four e = record {
+    none = λ q l a.
+        ⊎-elim (λ y. unread q (n + s + 1) (omega arith) next) (λ y. unread q (n + s + w) (omega arith) below) (four-after w s q pw l (sym (ap (λ (f : ℕ → ℕ → Bool). f s q) (hood-four w e)) ∙ a));
+  }
+
+  pub alone-eight : steps ≡ 8 → (getD work (n + s + w - 1) 0 ≡ word → ⊥) → (getD work (n + s + w + 1) 0 ≡ word → ⊥) → Alone n w steps work s word
+  alone-eight e left right = record { none = λ q l a. go q (eight-after w s q pw l (sym (ap (λ (f : ℕ → ℕ → Bool). f s q) (hood-eight w e)) ∙ a)) }
+    where
+      go : (q : ℕ) → After w s q → plane n 1 work q ≡ word → ⊥
+      go q (After.next y) = unread q (n + s + 1) (omega arith) next
+      go q (After.below y) = unread q (n + s + w) (omega arith) below
+      go q (After.aside a) = ⊎-elim (λ y. unread q (n + s + w - 1) (omega arith) left) (λ y. unread q (n + s + w + 1) (omega arith) right) (a .is)
+
+module _ {h w steps : ℕ} {work : List ℕ} {s head : ℕ} {t : Tally} (b : Begun h w steps work s head t) where
+  -- s is on the grid, has the last label and the paint of what waits
+  pub alone-in : s < h * w
+  alone-in = let l = b .flood .filled .order .placed head (omega (arith, b .last)) .0 in omega (arith, b .is)
+
+  alone-mine : plane (h * w) 1 work s ≡ t .regions
+  unfolding groupAt
+  alone-mine = ap (plane (h * w) 1 work) (sym (b .is)) ∙ b .flood .wait head (le-refl head) (omega (arith, b .last))
+
+  pub alone-paint : {paint : ℕ} → Tinted (h * w) work head (t .taken) paint → plane (h * w) 0 work s ≡ paint
+  alone-paint tint = ap (plane (h * w) 0 work) (sym (b .is)) ∙ tint .alike head (le-refl head) (omega (arith, b .last))
+
+  -- if nothing after s joins it, the region is whole
+  module _ (none : (q : ℕ) → q < h * w → s < q → hood steps w s q ≡ true → plane (h * w) 0 work q ≡ plane (h * w) 0 work s → plane (h * w) 1 work q ≡ 0 → ⊥) where
+    alone-done : (q : ℕ) → q < h * w → link (hood steps w) (cellsOf (h * w) work) s q ≡ true → plane (h * w) 1 work q ≡ 0 → ⊥
+    alone-done q lq k z =
+        elim (decLt q s) [
+          | yes l ↦ b .before q l (link-right (hood steps w) (cellsOf (h * w) work) s q k) z
+          | no m ↦ elim (decLt s q) [
+            | yes l ↦ none q lq l (link-adj (hood steps w) (cellsOf (h * w) work) s q k) (link-paint (hood steps w) (h * w) work s q alone-in lq k) z
+            | no r ↦ (let e : q ≡ s = omega arith in omega (arith, b .flood .some, alone-mine, ap (plane (h * w) 1 work) e))
+          ]
+        ]
+
+    pub alone-whole : Filled h w steps work (t .regions - 1) t Shut
+    alone-whole =
+        refilled (b .flood .filled) (λ p q lp lq k a.
+        let y : a .at ≡ head = omega (arith, a .low, a .high, b .last) in
+        let e : p ≡ s = sym (a .is) ∙ ap (plane (h * w) 2 work) y ∙ b .is in
+        inl (alone-done q lq (subst (λ (x : ℕ). link (hood steps w) (cellsOf (h * w) work) x q ≡ true) e k)))
 
 -- ---- a region ends: its end is stored in plane 3
 
@@ -318,6 +373,12 @@ module _ {h w steps : ℕ} {work : List ℕ} {t : Tally} {done : ℕ} (f : Fille
         under = f .under;
       }
 
+-- an opaque place that has a label keeps it
+labelled-since : {n : ℕ} {work new : List ℕ} (p : ℕ) → Since n work new → p < n → (opaque (cellsOf n work) p ≡ true → plane n 1 work p ≡ 0 → ⊥) → opaque (cellsOf n new) p ≡ true → plane n 1 new p ≡ 0 → ⊥
+labelled-since p since lp has o z =
+    let nz = has (subst (λ (x : List ℤ). opaque x p ≡ true) (sheet-kept (since .kept)) o) in
+    nz (sym (since .given p lp nz) ∙ z)
+
 -- ---- the place s, all opaque places before which have their labels
 
 module _ {h w steps : ℕ} {work : List ℕ} {t : Tally} {s : ℕ} (f : Filled h w steps work (t .regions) t Shut) (passed : Passed h w steps work t s) (ls : s < h * w) where
@@ -388,7 +449,7 @@ module _ {h w steps : ℕ} {work : List ℕ} {t : Tally} {s : ℕ} (f : Filled h
         (first-number (h * w) (hood steps w) sheet (len f) (symm f) s first-here ∙ ap (λ (x : ℕ). x + 1) (sym (passed .number)))
         foremost-here (λ p a. absurd a) (record { at = t .taken; low = le-refl _; high = omega arith; is = put-begun .last })
 
-    pub begin-flood : Flood h w steps begun (t .taken) next
+    begin-flood : Flood h w steps begun (t .taken) next
     begin-flood =
         let d : t .regions ≡ t .regions + 1 - 1 = omega arith in
         record {
@@ -399,7 +460,15 @@ module _ {h w steps : ℕ} {work : List ℕ} {t : Tally} {s : ℕ} (f : Filled h
           some = omega arith;
         }
 
-    -- s alone waits
+    -- s alone waits, and what waits has its paint
+    pub begin-alone : Begun h w steps begun s (t .taken) next
+    begin-alone = record {
+      flood = begin-flood;
+      last = refl;
+      is = put-begun .last;
+      before = λ p lp. labelled-since p (put-since put-begun ls free (omega arith)) (omega arith) (passed .labelled p lp);
+    }
+
     pub begin-tint : Tinted (h * w) begun (t .taken) (t .taken + 1) (plane (h * w) 0 work s)
     begin-tint = record {
       alike = λ i lo hi.
@@ -429,12 +498,11 @@ module _ {h w steps : ℕ} {work : List ℕ} {t : Tally} {s : ℕ} (f : Filled h
           let c : cellsOf (h * w) closing ≡ sheet = sheet-kept (closed-since .kept) in
           record {
             labelled = λ p lp o e.
-                let o′ : opaque sheet p ≡ true = subst (λ (x : List ℤ). opaque x p ≡ true) c o in
                 elim (ℕ-discrete p s) [
                   | yes y ↦ (let mine : plane (h * w) 1 closing s ≡ t .regions + 1 =
                       since-trans since (end-since begun-filled num) .given s ls (λ z. omega (arith, put-begun .mine)) ∙ put-begun .mine in
                       omega (arith, ap (plane (h * w) 1 closing) y))
-                  | no n ↦ (let nz : plane (h * w) 1 work p ≡ 0 → ⊥ = passed .labelled p (omega arith) o′ in nz (sym (closed-since .given p (omega arith) nz) ∙ e))
+                  | no n ↦ labelled-since p closed-since (omega arith) (passed .labelled p (omega arith)) o e
                 ];
             number =
                 num ∙ ap (λ (x : ℕ). x + 1) (passed .number) ∙ sym (first-next (h * w) (hood steps w) sheet (len f) (symm f) s first-here)

@@ -317,6 +317,43 @@ eight-chosen w p q e =
     chosen (some-way (p / w) (q / w) (left r c (left (r && c) d e)) .1) (some-way (p % w) (q % w) (right r c (left (r && c) d e)) .1)
     (λ y x. clash (yes-eqb (sym (div-add-mod' p w) ∙ rw (y, x) (div-add-mod' q w))) (not-true (right (r && c) d e)))
 
+-- a neighbour below in another column
+pub record Aside (w p q : ℕ) : Type 0 where
+  pub is : (q + 1 ≡ p + w) ⊎ (q ≡ p + w + 1)
+  pub row : p / w ≡ q / w → ⊥
+  pub col : p % w ≡ q % w → ⊥
+
+-- a neighbour after p is the next place or one of three below
+pub data After (w p q : ℕ) : Type 0 where
+  next : q ≡ p + 1 → After w p q
+  below : q ≡ p + w → After w p q
+  aside : Aside w p q → After w p q
+
+-- one row further down
+row-below : (w p q : ℕ) → q / w ≡ p / w + 1 → q + p % w ≡ p + w + q % w
+row-below w p q e = omega (arith, div-add-mod' p w, div-add-mod' q w, add-mul (p / w) 1 w, ap (λ (y : ℕ). y * w) e)
+
+ways-after : (w p q : ℕ) {d e : ℤ} → 0 < w → p < q → Way (p / w) (q / w) d → Way (p % w) (q % w) e → After w p q
+ways-after w p q pw l (back r) v = absurd (omega (arith, row-below w q p r, mod-lt q pw))
+ways-after w p q pw l (stay r) v = next (omega (arith, div-add-mod' p w, div-add-mod' q w, ap (λ (y : ℕ). y * w) r, way-far v .1))
+ways-after w p q pw l (on r) (back c) = aside (record { is = inl (omega (arith, row-below w p q r)); row = λ z. omega arith; col = λ z. omega arith })
+ways-after w p q pw l (on r) (stay c) = below (omega (arith, row-below w p q r))
+ways-after w p q pw l (on r) (on c) = aside (record { is = inr (omega (arith, row-below w p q r)); row = λ z. omega arith; col = λ z. omega arith })
+
+pub eight-after : (w p q : ℕ) → 0 < w → p < q → eight w p q ≡ true → After w p q
+eight-after w p q pw l e = let c = eight-chosen w p q e in ways-after w p q pw l (c .go .0) (c .go .1)
+
+pub four-after : (w p q : ℕ) → 0 < w → p < q → four w p q ≡ true → (q ≡ p + 1) ⊎ (q ≡ p + w)
+unfolding four
+four-after w p q pw l e =
+    let s = eqb (p / w) (q / w) || eqb (p % w) (q % w) in
+    go (eight-after w p q pw l (left (eight w p q) s e)) (either (eqb (p / w) (q / w)) (eqb (p % w) (q % w)) (right (eight w p q) s e))
+  where
+    go : After w p q → (eqb (p / w) (q / w) ≡ true) ⊎ (eqb (p % w) (q % w) ≡ true) → (q ≡ p + 1) ⊎ (q ≡ p + w)
+    go (next f) s = inl f
+    go (below f) s = inr f
+    go (aside a) s = absurd (⊎-elim (λ y. a .row (eqb-yes y)) (λ y. a .col (eqb-yes y)) s)
+
 pub eight-hop : (h w p q : ℕ) → q < h * w → eight w p q ≡ true → (k : ℕ) × (k < 8) × (hop h w p k ≡ some q)
 eight-hop h w p q l e = let c = eight-chosen w p q e in (c .k, c .below, hop-is h w p (c .k) q l (c .go))
 

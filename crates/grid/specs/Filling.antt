@@ -89,6 +89,17 @@ pub record Flood (h w steps : ℕ) (work : List ℕ) (head : ℕ) (t : Tally) : 
   pub wait : (i : ℕ) → head ≤ i → i < t .taken → groupAt (h * w) work i ≡ t .regions
   pub some : 1 ≤ t .regions
 
+-- the last region is s alone, which waits at head, and every opaque place before s has a label
+pub record Begun (h w steps : ℕ) (work : List ℕ) (s head : ℕ) (t : Tally) : Type 0 where
+  pub flood : Flood h w steps work head t
+  pub last : t .taken ≡ head + 1
+  pub is : plane (h * w) 2 work head ≡ s
+  pub before : (p : ℕ) → p < s → opaque (cellsOf (h * w) work) p ≡ true → plane (h * w) 1 work p ≡ 0 → ⊥
+
+-- no neighbour after s has the word in plane 1
+pub record Alone (n w steps : ℕ) (work : List ℕ) (s word : ℕ) : Type 0 where
+  pub none : (q : ℕ) → s < q → hood steps w s q ≡ true → plane n 1 work q ≡ word → ⊥
+
 -- all that waits has one paint
 pub record Tinted (n : ℕ) (work : List ℕ) (head taken paint : ℕ) : Type 0 where
   pub alike : (i : ℕ) → head ≤ i → i < taken → plane n 0 work (plane n 2 work i) ≡ paint

@@ -2,7 +2,7 @@
 use crate::Step;
 use crate::Tally;
 ghost use mathlib.Core.Path.{_≡_};
-ghost use mathlib.Core.Bool.{false};
+ghost use mathlib.Core.Bool.{true, false};
 ghost use Prim.Native.Nat.{ℕ, _+_, _-_, _*_, _/_, _%_, _<_, _≤_};
 ghost use lib.ListN.{length};
 ghost use Rattle.base.specs.Outputs.{filled};
@@ -10,7 +10,7 @@ ghost use Rattle.rules.specs.Grid.{stepTo};
 ghost use Rattle.rules.specs.Masks.{labelAt, regions};
 ghost use Rattle.grid.specs.Steps.{Single, Inner, hood};
 ghost use Rattle.grid.specs.Planes.{plane, cellsOf, Labelled};
-ghost use Rattle.grid.specs.Filling.{Sized, seen, Coded, blanks, Filled, Shut, Flood, Tinted, Passed, Kept, Since, Visited, wordOf, Cleared};
+ghost use Rattle.grid.specs.Filling.{Sized, seen, Coded, blanks, Filled, Shut, Flood, Begun, Alone, Tinted, Passed, Kept, Since, Visited, wordOf, Cleared};
 
 // No label is above it. A place without a label has in plane 1 its paint and this more.
 const MOST: u32 = 264196;
@@ -105,6 +105,54 @@ fn flood(
     t
 }
 
+// Whether no neighbour after s has the word `code`.
+fn alone(work: &[u32], h: usize, w: usize, steps: usize, s: usize, code: u32) -> bool
+    requires { ⌜ Sized h w steps (now work) × (s < h * w) ⌝ }
+    ensures { λ r. ⌜ (r ≡ true → Alone (h * w) w steps (now (work .entry)) s code) ⌝ }
+{
+    let at = h * w + s;
+    let next = at + 1;
+    if work[next] == code {
+        return false;
+    }
+    let below = at + w;
+    if work[below] == code {
+        return false;
+    }
+    if steps == 4 {
+        return true;
+    }
+    let left = below - 1;
+    if work[left] == code {
+        return false;
+    }
+    let right = below + 1;
+    work[right] != code
+}
+
+// The whole region that begins at s, which alone waits: nothing joins it if no neighbour after s has its code.
+fn fill(
+    work: &mut [u32],
+    h: usize,
+    w: usize,
+    steps: usize,
+    s: usize,
+    first: usize,
+    code: u32,
+    from: Tally,
+) -> Tally
+    requires { ⌜ Begun h w steps (seen (h * w) (now work)) s first from × Coded (h * w) (now work) × Tinted (h * w) (seen (h * w) (now work)) first (from .taken) (code - 264196) ⌝ }
+    requires { ⌜ 264196 < code ⌝ }
+    ensures { λ r. ⌜ Filled h w steps (seen (h * w) (now (work .exit))) (r .regions - 1) r Shut × Coded (h * w) (now (work .exit)) ⌝ }
+    ensures { λ r. ⌜ Since (h * w) (seen (h * w) (now (work .entry))) (seen (h * w) (now (work .exit))) ⌝ }
+    ensures { λ r. ⌜ r .regions ≡ from .regions ⌝ }
+{
+    if alone(work, h, w, steps, s, code) {
+        return from;
+    }
+    flood(work, h, w, steps, first, code, from)
+}
+
 // The place s: if it begins a region, that whole region is labelled and its end stored.
 fn begin(work: &mut [u32], h: usize, w: usize, steps: usize, s: usize, t: Tally) -> Tally
     requires { ⌜ Filled h w steps (seen (h * w) (now work)) (t .regions) t Shut × Coded (h * w) (now work) ⌝ }
@@ -129,7 +177,7 @@ fn begin(work: &mut [u32], h: usize, w: usize, steps: usize, s: usize, t: Tally)
         regions: mark,
         taken: next,
     };
-    let full = flood(work, h, w, steps, at, code, first);
+    let full = fill(work, h, w, steps, s, at, code, first);
     let end = full.taken;
     work[3 * n + before as usize] = end as u32;
     full

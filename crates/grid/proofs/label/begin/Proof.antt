@@ -5,11 +5,11 @@ use Prim.Native.Nat.{ℕ, _+_, _-_, _*_, _≤_, _<_}
 use native.Mathlib.Omega.{arith}
 use lib.ListN.{length, getD, set, length-set}
 use Rattle.grid.specs.Planes.{plane}
-use Rattle.grid.specs.Filling.{seen, joined, Filled, Shut, Flood, Tinted, Passed, Since}
+use Rattle.grid.specs.Filling.{seen, joined, Filled, Shut, Begun, Tinted, Passed, Since}
 use Rattle.grid.proofs.Places.{area}
 use Rattle.grid.proofs.Planes.{plane-read}
 use Rattle.grid.proofs.Filling.{since-refl}
-use Rattle.grid.proofs.Flooding.{begin-fits, begin-flood, begin-tint, closed-size, closed-filled, closed-passed, closed-since}
+use Rattle.grid.proofs.Flooding.{begin-fits, begin-alone, begin-tint, closed-size, closed-filled, closed-passed, closed-since}
 use Rattle.grid.proofs.Seen.{seen-size, seen-joined, seen-end, seen-length, coded-joined, coded-end, Fresh, code-fresh, pass-low}
 use Rattle.grid.proofs.label.begin.Statement.{statement}
 use Rattle.grid.proofs.label.begin.Tie as tie
@@ -115,14 +115,14 @@ mark-most c = omega (arith, bounds (start c), left c)
 marked-seen : (c : tie.Else1) → seen (n (start c)) (raw c) ≡ marked c
 marked-seen c = let s = start c in seen-joined (n s) (s .args .s) (s .args .t .regions + 1) (s .args .t .taken) (s .args .work .now) (s .pre .1 .1) (left c) (mark-most c) (bounds s .room)
 
-flood-requires : tie.Need-flood-requires
-flood-requires c κs =
+fill-requires : tie.Need-fill-requires
+fill-requires c κs =
     let e = c .before in
     let s = start e in
     let a = s .args in
     let m : ℕ = n s in
-    let k = subst (λ (l : List ℕ). Flood (a .h) (a .w) (a .steps) l (a .t .taken) (record { regions = a .t .regions + 1; taken = a .t .taken + 1 }) × Tinted m l (a .t .taken) (a .t .taken + 1) (code e - 264196)) (sym (marked-seen e)) (
-      begin-flood (s .pre .0 .0) (s .pre .1 .0) (s .pre .1 .1) (paint e) (free e),
+    let k = subst (λ (l : List ℕ). Begun (a .h) (a .w) (a .steps) l (a .s) (a .t .taken) (record { regions = a .t .regions + 1; taken = a .t .taken + 1 }) × Tinted m l (a .t .taken) (a .t .taken + 1) (code e - 264196)) (sym (marked-seen e)) (
+      begin-alone (s .pre .0 .0) (s .pre .1 .0) (s .pre .1 .1) (paint e) (free e),
       subst (λ (x : ℕ). Tinted m (marked e) (a .t .taken) (a .t .taken + 1) x) (fresh e .paint) (begin-tint (s .pre .0 .0) (s .pre .1 .0) (s .pre .1 .1) (paint e) (free e)),
     ) in (
       (k .0, coded-joined (s .pre .0 .1) (a .s) (a .t .regions + 1) (a .t .taken) (s .pre .1 .1) (left e) (omega arith) (mark-most e) (bounds s .room), k .1),
@@ -135,25 +135,29 @@ begun c = c .before .before .before .before
 
 pub record Whole (c : tie.After-slice-known3) : Type 0 where
   pub few : n (start (begun c)) ≤ 264196
-  pub taken : c .before .before .flood .result .taken ≤ n (start (begun c))
-  pub room : 3 * n (start (begun c)) + start (begun c) .args .t .regions < length (c .before .before .flood .last .0)
+  pub under : start (begun c) .args .t .regions ≤ start (begun c) .args .t .taken
+  pub left : start (begun c) .args .t .taken < n (start (begun c))
+  pub taken : c .before .before .fill .result .taken ≤ n (start (begun c))
+  pub room : 3 * n (start (begun c)) + start (begun c) .args .t .regions < length (c .before .before .fill .last .0)
 
 -- what is kept since s got its label
-since : (c : tie.After-slice-known3) → Since (n (start (begun c))) (marked (begun c)) (seen (n (start (begun c))) (c .before .before .flood .last .0))
+since : (c : tie.After-slice-known3) → Since (n (start (begun c))) (marked (begun c)) (seen (n (start (begun c))) (c .before .before .fill .last .0))
 since c =
     let m : ℕ = n (start (begun c)) in
-    subst (λ (l : List ℕ). Since m l (seen m (c .before .before .flood .last .0))) (marked-seen (begun c)) (c .before .before .flood .ensures .1 .0)
+    subst (λ (l : List ℕ). Since m l (seen m (c .before .before .fill .last .0))) (marked-seen (begun c)) (c .before .before .fill .ensures .1 .0)
 
 whole-at : (c : tie.After-slice-known3) → Whole c
 whole-at c =
     let e = begun c in
     let s = start e in
-    let g = c .before .before .flood .ensures in
+    let g = c .before .before .fill .ensures in
     let l = closed-size (s .pre .0 .0) (s .pre .1 .0) (s .pre .1 .1) (paint e) (free e) (g .0 .0) (g .1 .1) (since c) in
     record {
       few = bounds s .few;
+      under = bounds s .under;
+      left = left e;
       taken = omega (arith, g .0 .0 .order .free);
-      room = omega (arith, l, seen-size (n s) (c .before .before .flood .last .0));
+      room = omega (arith, l, seen-size (n s) (c .before .before .fill .last .0));
     }
 
 cast-work-2 : tie.Need-cast-work-2
@@ -163,44 +167,36 @@ mul-work-4 : tie.Need-mul-work-4
 mul-work-4 c = omega (arith, whole-at c)
 
 cast-work-3 : tie.Need-cast-work-3
-cast-work-3 c = omega (arith, bounds (start (begun c)), left (begun c))
+cast-work-3 c = omega (arith, whole-at c)
 
 add-work-3 : tie.Need-add-work-3
-add-work-3 c = omega (arith, bounds (start (begun c)), left (begun c))
+add-work-3 c = omega (arith, whole-at c)
 
 mul-work-5 : tie.Need-mul-work-5
-mul-work-5 c = omega (arith, bounds (start (begun c)), left (begun c))
+mul-work-5 c = omega (arith, whole-at c)
 
 slice-write-work-3 : tie.Need-slice-write-work-3
 slice-write-work-3 c = whole-at c .room
 
 -- the work area once the end is stored, as it is seen
-ended-seen : (c : tie.After-slice-known3) → let m = n (start (begun c)) in let k = 3 * m + start (begun c) .args .t .regions in let r = c .before .before .flood in
+ended-seen : (c : tie.After-slice-known3) → let m = n (start (begun c)) in let k = 3 * m + start (begun c) .args .t .regions in let r = c .before .before .fill in
     seen m (set (r .last .0) k (r .result .taken)) ≡ set (seen m (r .last .0)) k (r .result .taken)
-ended-seen c = let r = c .before .before .flood in seen-end (n (start (begun c))) (start (begun c) .args .t .regions) (r .result .taken) (r .last .0) (whole-at c .room)
-
-ended-since : (c : tie.After-slice-known3) → let s = start (begun c) in let r = c .before .before .flood in
-    Since (n s) (old (begun c)) (set (seen (n s) (r .last .0)) (3 * n s + s .args .t .regions) (r .result .taken))
-ended-since c =
-    let e = begun c in
-    let s = start e in
-    let g = c .before .before .flood .ensures in
-    closed-since (s .pre .0 .0) (s .pre .1 .0) (s .pre .1 .1) (paint e) (free e) (g .0 .0) (g .1 .1) (since c)
+ended-seen c = let r = c .before .before .fill in seen-end (n (start (begun c))) (start (begun c) .args .t .regions) (r .result .taken) (r .last .0) (whole-at c .room)
 
 same-length : tie.Need-same-length
-same-length c = seen-length _ _ _ (ap length (ended-seen c) ∙ ended-since c .kept .size)
+same-length c = simp length-set (seen-length _ (start (begun c) .args .work .now) _ (since c .kept .size ∙ simp length-set))
 
 returns-2 : tie.Need-returns-2
 returns-2 c =
     let e = begun c in
     let s = start e in
     let a = s .args in
-    let r = c .before .before .flood in
+    let r = c .before .before .fill in
     let g = r .ensures in
     let k = subst (λ (l : List ℕ). Filled (a .h) (a .w) (a .steps) l (r .result .regions) (r .result) Shut × Passed (a .h) (a .w) (a .steps) l (r .result) (a .s + 1) × Since (n s) (old e) l) (sym (ended-seen c)) (
       closed-filled (s .pre .0 .0) (s .pre .1 .0) (s .pre .1 .1) (paint e) (free e) (g .0 .0) (g .1 .1) (since c),
       closed-passed (s .pre .0 .0) (s .pre .1 .0) (s .pre .1 .1) (paint e) (free e) (g .0 .0) (g .1 .1) (since c),
-      ended-since c,
+      closed-since (s .pre .0 .0) (s .pre .1 .0) (s .pre .1 .1) (paint e) (free e) (g .0 .0) (g .1 .1) (since c),
     ) in
     ((k .0, coded-end (g .0 .1) (a .t .regions) (r .result .taken) (omega (arith, bounds s, left e))), (k .1, k .2))
 
@@ -223,7 +219,7 @@ begin-spec =
     mul-work-3
     slice-write-work-2
     add-next
-    flood-requires
+    fill-requires
     cast-work-2
     mul-work-4
     cast-work-3

@@ -1,0 +1,124 @@
+-- `grid::label::alone`: the words of the places after s that can be its neighbours. Assumes nothing.
+use mathlib.Core.Path.{_≡_, sym}
+use mathlib.Core.Logic.{⊎-elim}
+use mathlib.Core.Bool.{true, false, true≢false}
+use Prim.Native.Nat.{_*_, _≤_, _<_}
+use native.Mathlib.Nat.{le-refl, mul-le-mul}
+use native.Mathlib.Omega.{arith}
+use borrow.Author.Tests.{eqb-false}
+use lib.ListN.{length}
+use Rattle.base.proofs.Counting.{not-true}
+use Rattle.grid.proofs.Places.{wide, row-in, area}
+use Rattle.grid.proofs.Flooding.{alone-four, alone-eight}
+use Rattle.grid.proofs.label.alone.Statement.{statement}
+use Rattle.grid.proofs.label.alone.Tie as tie
+
+-- what the needs of arithmetic want
+pub record Bounds (c : tie.Start) : Type 0 where
+  pub on : c .args .s < c .args .h * c .args .w
+  pub few : c .args .h * c .args .w ≤ 264196
+  pub row : c .args .w ≤ c .args .h * c .args .w
+  pub room : 8 * (c .args .h * c .args .w) ≤ length (c .args .work .now)
+
+bounds : (c : tie.Start) → Bounds c
+bounds c =
+    let z = c .pre .0 in
+    let one : 1 ≤ c .args .h = omega (arith, row-in _ _ _ (c .pre .1)) in
+    record { on = c .pre .1; few = area _ _ (z .rows) (z .cols); row = omega (arith, mul-le-mul one (le-refl (c .args .w))); room = z .planes }
+
+mul-at : tie.Need-mul-at
+mul-at c = omega (arith, bounds c)
+
+add-at : tie.Need-add-at
+add-at c = omega (arith, bounds c)
+
+add-next : tie.Need-add-next
+add-next c = omega (arith, bounds c)
+
+mul-if1 : tie.Need-mul-if1
+mul-if1 c = omega (arith, bounds c)
+
+shared-slice-read-if1 : tie.Need-shared-slice-read-if1
+shared-slice-read-if1 c = omega (arith, bounds (c .before))
+
+not-alone : {A : Type 0} → false ≡ true → A
+not-alone z = absurd (true≢false (sym z))
+
+returns : tie.Need-returns
+returns c = not-alone
+
+abbrev start : tie.Else1 → tie.Start
+start c = c .before .before
+
+add-below : tie.Need-add-below
+add-below c = omega (arith, bounds (start c))
+
+mul-if2 : tie.Need-mul-if2
+mul-if2 c = omega (arith, bounds (start c))
+
+shared-slice-read-if2 : tie.Need-shared-slice-read-if2
+shared-slice-read-if2 c = omega (arith, bounds (start (c .before)))
+
+returns-2 : tie.Need-returns-2
+returns-2 c = not-alone
+
+returns-3 : tie.Need-returns-3
+returns-3 c z =
+    let b = c .before in
+    let s = start (b .before .before) in
+    alone-four _ _ _ _ _ _ (wide _ _ _ (s .pre .1)) (b .before .before .if1 .left) (b .if2 .left) (c .if3 .taken)
+
+sub-left : tie.Need-sub-left
+sub-left c = omega (arith, bounds (start (c .before .before .before)))
+
+mul-if4 : tie.Need-mul-if4
+mul-if4 c = omega (arith, bounds (start (c .before .before .before)))
+
+shared-slice-read-if4 : tie.Need-shared-slice-read-if4
+shared-slice-read-if4 c = omega (arith, bounds (start (c .before .before .before .before)))
+
+returns-4 : tie.Need-returns-4
+returns-4 c = not-alone
+
+abbrev diagonal : tie.Else4 → tie.Else3
+diagonal c = c .before .before
+
+add-right : tie.Need-add-right
+add-right c = omega (arith, bounds (start (diagonal c .before .before .before)))
+
+mul-result : tie.Need-mul-result
+mul-result c = omega (arith, bounds (start (diagonal c .before .before .before)))
+
+shared-slice-read-result : tie.Need-shared-slice-read-result
+shared-slice-read-result c = omega (arith, bounds (start (diagonal (c .before) .before .before .before)))
+
+returns-5 : tie.Need-returns-5
+returns-5 c z =
+    let d = diagonal (c .before) in
+    let e = d .before .before .before in
+    let s = start e in
+    alone-eight _ _ _ _ _ _ (wide _ _ _ (s .pre .1)) (e .if1 .left) (d .before .if2 .left) (⊎-elim (λ y. absurd (d .if3 .left y)) (λ y. y) (s .pre .0 .count)) (c .before .if4 .left) (eqb-false _ _ (not-true z))
+
+pub alone-spec : {M : Type 1} → statement M
+alone-spec =
+    tie.close
+    (tie.spec
+    mul-at
+    add-at
+    add-next
+    mul-if1
+    shared-slice-read-if1
+    returns
+    add-below
+    mul-if2
+    shared-slice-read-if2
+    returns-2
+    returns-3
+    sub-left
+    mul-if4
+    shared-slice-read-if4
+    returns-4
+    add-right
+    mul-result
+    shared-slice-read-result
+    returns-5)
