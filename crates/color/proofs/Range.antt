@@ -22,7 +22,7 @@ use Rattle.base.specs.Doubles.{_⊕_, _⊖_, _⊗_, decimal}
 use Rattle.color.specs.Lab.{within, dist2, distance}
 
 -- x is finite, with the sign s, and its size is at most n
-abbrev Size : ℕ → Bool → Float → Type 0
+abbrev pub Size : ℕ → Bool → Float → Type 0
 Size n s nan = ⊥
 Size n s (inf t) = ⊥
 Size n s (fin t m e) = (t ≡ s) × (m * up e ≤ n * down e)
@@ -90,7 +90,7 @@ module _ (n : ℕ) (N : n < 2 ^ 53) where
 
 -- ---- the operations
 -- x is finite and its size is at most n
-abbrev Sized : ℕ → Float → Type 0
+abbrev pub Sized : ℕ → Float → Type 0
 Sized n x = (s : Bool) × (Size n s x)
 
 -- a / c + b / d as one fraction
@@ -151,7 +151,7 @@ square n (fin s m e) N h =
 
 -- ---- a part in range
 -- a ≤ b, as the comparison of doubles has it
-not-above : (a b c d : ℕ) (q : Bool) → (c ≡ d → a ≡ b) → (ltb a b || (eqb c d && q)) ≡ true → a ≤ b
+pub not-above : (a b c d : ℕ) (q : Bool) → (c ≡ d → a ≡ b) → (ltb a b || (eqb c d && q)) ≡ true → a ≤ b
 not-above a b c d q f t =
     ⊎-elim (λ h. le-of-lt (ltb→lt a b (to-T h))) (λ h. le-of-eq (f (eqb-yes (left (eqb c d) q h)))) (either (ltb a b) (eqb c d && q) t)
 

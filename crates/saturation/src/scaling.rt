@@ -1,15 +1,47 @@
 // Saturation: a and b of every entry of a palette, multiplied by beta.
+use checks::between;
 use color::cielab::entry;
 use color::cielab::within;
 ghost use mathlib.Core.Path.{_≡_};
 ghost use Prim.Native.Nat.{_*_, _<_, _≤_};
+ghost use mathlib.Core.Bool.{true, false};
 ghost use lib.Ieee.{nan};
 ghost use lib.ListN.{length, getD, set};
 ghost use Rattle.base.specs.Doubles.{_⊗_};
 ghost use Rattle.rules.specs.Palette.{paletteOf, saturate, outOfRange};
+ghost use Rattle.saturation.specs.Near.{AllNear};
 
-// Whether a multiplied a or b is NaN or beyond 1024 either way.
-pub fn too_vivid(palette: &[f64], k: usize, beta: f64) -> bool
+// Whether every double in use is from -reach to reach: each third of them is walked at once.
+fn all_near(palette: &[f64], k: usize, reach: f64) -> bool
+    requires { ⌜ (3 * k ≤ length (now palette)) × (k ≤ 256) ⌝ }
+    ensures { λ r. ⌜ (r ≡ true → AllNear reach (now (palette .entry)) (3 * k)) ⌝ }
+{
+    let least = -reach;
+    let mut near = true;
+    for i in 0..k {
+        near = between(least, reach, palette[i]) & near;
+        near = between(least, reach, palette[k + i]) & near;
+        near = between(least, reach, palette[2 * k + i]) & near;
+    }
+    near
+}
+
+// Whether no double is out of range and no product can be, since neither beta nor a double is far from 0.
+pub fn calm(palette: &[f64], k: usize, beta: f64) -> bool
+    requires { ⌜ (3 * k ≤ length (now palette)) × (k ≤ 256) ⌝ }
+    ensures { λ r. ⌜ (r ≡ true → (outOfRange (paletteOf (now (palette .entry)) k) ≡ false) × (outOfRange (saturate beta (paletteOf (now (palette .entry)) k)) ≡ false)) ⌝ }
+{
+    if between(-1.0, 1.0, beta) {
+        return all_near(palette, k, 1024.0);
+    }
+    if between(-4.0, 4.0, beta) {
+        return all_near(palette, k, 256.0);
+    }
+    false
+}
+
+// Whether a multiplied a or b is NaN or beyond 1024 either way, by every product.
+pub fn any_vivid(palette: &[f64], k: usize, beta: f64) -> bool
     requires { ⌜ (3 * k ≤ length (now palette)) × (k ≤ 256) ⌝ }
     ensures { λ r. ⌜ r ≡ outOfRange (saturate beta (paletteOf (now (palette .entry)) k)) ⌝ }
 {
@@ -21,6 +53,17 @@ pub fn too_vivid(palette: &[f64], k: usize, beta: f64) -> bool
         bad = !within(c.b * beta) | bad;
     }
     bad
+}
+
+// Whether a multiplied a or b is NaN or beyond 1024 either way.
+pub fn too_vivid(palette: &[f64], k: usize, beta: f64) -> bool
+    requires { ⌜ (3 * k ≤ length (now palette)) × (k ≤ 256) ⌝ }
+    ensures { λ r. ⌜ r ≡ outOfRange (saturate beta (paletteOf (now (palette .entry)) k)) ⌝ }
+{
+    if calm(palette, k, beta) {
+        return false;
+    }
+    any_vivid(palette, k, beta)
 }
 
 // Multiplies the double at a place by beta.

@@ -18,10 +18,16 @@ returns : tie.Need-returns
 unfolding saturationRefusal
 returns c = refuses _ _ 4 (row-four _ _ (sym (c .before .bad-palette .ensures) ∙ c .if1 .taken))
 
-bad-colour-requires : tie.Need-bad-colour-requires
-bad-colour-requires c κs =
+calm-requires : tie.Need-calm-requires
+calm-requires c κs =
     let e = c .before in
     room (paletteOf _ _) (sym (e .before .bad-palette .ensures) ∙ e .if1 .left)
+
+bad-colour-unless-requires : tie.Need-bad-colour-unless-requires
+bad-colour-unless-requires c κs =
+    let e = c .before .before .before in
+    let r = room (paletteOf _ _) (sym (e .before .bad-palette .ensures) ∙ e .if1 .left) in
+    (r .0, r .1, λ q. c .before .calm .ensures q .0)
 
 same-length-2 : tie.Need-same-length-2
 same-length-2 c = search needs
@@ -29,13 +35,15 @@ same-length-2 c = search needs
 returns-2 : tie.Need-returns-2
 unfolding saturationRefusal
 returns-2 c =
-    let e = c .before .before .before in
-    refuses _ _ 5 (row-five _ _ (sym (e .before .bad-palette .ensures) ∙ e .if1 .left) (sym (c .before .bad-colour .ensures) ∙ c .if2 .taken))
+    let e = c .before .before .before .before .before in
+    refuses _ _ 5 (row-five _ _ (sym (e .before .bad-palette .ensures) ∙ e .if1 .left) (sym (c .before .bad-colour-unless .ensures) ∙ c .if2 .taken))
 
 bad-saturation-requires : tie.Need-bad-saturation-requires
 bad-saturation-requires c κs =
-    let e = c .before .before .before .before in
-    room (paletteOf _ _) (sym (e .before .bad-palette .ensures) ∙ e .if1 .left)
+    let q = c .before .before .before .before in
+    let e = q .before .before in
+    let r = room (paletteOf _ _) (sym (e .before .bad-palette .ensures) ∙ e .if1 .left) in
+    (r .0, r .1, λ h. q .calm .ensures h .1)
 
 same-length-3 : tie.Need-same-length-3
 same-length-3 c = search needs
@@ -44,12 +52,12 @@ returns-3 : tie.Need-returns-3
 unfolding saturationRefusal
 returns-3 c =
     let f = c .before .before .before in
-    let e = f .before .before .before in
-    refuses _ _ 6 (row-six _ _ (sym (e .before .bad-palette .ensures) ∙ e .if1 .left) (sym (f .before .bad-colour .ensures) ∙ f .if2 .left) (sym (c .before .bad-saturation .ensures) ∙ c .if3 .taken))
+    let e = f .before .before .before .before .before in
+    refuses _ _ 6 (row-six _ _ (sym (e .before .bad-palette .ensures) ∙ e .if1 .left) (sym (f .before .bad-colour-unless .ensures) ∙ f .if2 .left) (sym (c .before .bad-saturation .ensures) ∙ c .if3 .taken))
 
 saturate-requires : tie.Need-saturate-requires
 saturate-requires c κs =
-    let e = c .before .before .before .before .before .before .before in
+    let e = c .before .before .before .before .before .before .before .before .before in
     room (paletteOf _ _) (sym (e .before .bad-palette .ensures) ∙ e .if1 .left)
 
 same-length-4 : tie.Need-same-length-4
@@ -60,8 +68,8 @@ unfolding saturationRefusal
 returns-4 c =
     let g = c .before .before .before .before in
     let f = g .before .before .before in
-    let e = f .before .before .before in
-    let r = saturates _ _ (no-row _ _ (sym (e .before .bad-palette .ensures) ∙ e .if1 .left) (sym (f .before .bad-colour .ensures) ∙ f .if2 .left) (sym (g .before .bad-saturation .ensures) ∙ g .if3 .left)) in
+    let e = f .before .before .before .before .before in
+    let r = saturates _ _ (no-row _ _ (sym (e .before .bad-palette .ensures) ∙ e .if1 .left) (sym (f .before .bad-colour-unless .ensures) ∙ f .if2 .left) (sym (g .before .bad-saturation .ensures) ∙ g .if3 .left)) in
     (r .0, c .before .before .saturate .ensures ∙ r .1)
 
 pub apply-saturation-spec : {M : Type 1} → statement M
@@ -71,7 +79,8 @@ apply-saturation-spec =
     bad-palette-requires
     same-length
     returns
-    bad-colour-requires
+    calm-requires
+    bad-colour-unless-requires
     same-length-2
     returns-2
     bad-saturation-requires
