@@ -31,7 +31,7 @@ unfolding cases outcome
     Pass.marked Pass.size Pass.few Pass.isLarge Pass.view Pass.choose Pass.judged Pass.votes Pass.most Pass.frequent Pass.target Pass.top Pass.voter Pass.pending Pass.decided Pass.verdict Pass.painted Pass.merges Pass.freezes Pass.fates Pass.fate Pass.applied Pass.moves Pass.fresh Pass.clean
     Corners.same Corners.corners Corners.finds Corners.opposite Corners.arms Corners.around Corners.goesOn Corners.isCorner Corners.trimmedBy Corners.trimmed Corners.trim
     Outline.onEdge Outline.touches Outline.asked Outline.pads Outline.paddedAt Outline.padded Outline.canvas Outline.ring Outline.hasRing Outline.inked Outline.darkest Outline.darkened Outline.lineColour Outline.nearestEntry Outline.choice Outline.chosenIndex Outline.chosenPalette Outline.drawn Outline.outline
-    Run.ruleOn Run.tidy
+    Run.ruleOn Run.tidy Run.tidyIf Run.limitsOf Run.toned Run.outlineIf Run.process
     Rows.tooLarge Rows.tooShort Rows.cramped Rows.badPalette Rows.badColour Rows.badSetting Rows.badIndex Entries.orphansRefusal
     Ieee.ofInt Ieee.add Ieee.sub Ieee.mul Ieee.round Ieee.lt Ieee.le Ieee.eq Ieee.neg Ieee.sum Ieee.units Ieee.odd Ieee.size Ieee.span Ieee.climb Ieee.ofBits Ieee.ofFields Count.trailingZeros
 examples = refl
