@@ -13,12 +13,6 @@ use Rattle.jaggies.proofs.Signs.{none-short, on, on-short, back, back-s
 use Rattle.jaggies.proofs.around.Statement.{statement}
 use Rattle.jaggies.proofs.around.Tie as tie
 
-sub-oy : tie.Need-sub-oy
-sub-oy c = back-fits (c .before .pre .1 .rows)
-
-sub-ox : tie.Need-sub-ox
-sub-ox c = back-fits (c .before .pre .1 .cols)
-
 -- a step from the spot finds b on the sheet `old`
 abbrev Finds : tie.Start → List ℤ → ℤ → ℤ → Bool
 Finds s old dy dx = finds (sheetOf old (s .args .at .h) (s .args .at .w)) (placeOf (s .args .at)) dy dx (cellOf (s .args .b))
@@ -40,28 +34,6 @@ start4 c = start3 (c .before .before)
 
 abbrev start5 : tie.Else5 → tie.Start
 start5 c = start4 (c .before .before)
-
-finds-requires : tie.Need-finds-requires
-finds-requires c κs =
-    let s = c .before in (s .pre .0, back-short (s .pre .1 .rows), back-short (s .pre .1 .cols), s .pre .2)
-
-finds-requires-2 : tie.Need-finds-requires-2
-finds-requires-2 c κs = let s = start1 c in (s .pre .0, back-short (s .pre .1 .rows), none-short, s .pre .2)
-
-finds-requires-3 : tie.Need-finds-requires-3
-finds-requires-3 c κs =
-    let s = start2 c in (s .pre .0, back-short (s .pre .1 .rows), on-short (s .pre .1 .cols), s .pre .2)
-
-finds-requires-4 : tie.Need-finds-requires-4
-finds-requires-4 c κs = let s = start3 c in (s .pre .0, none-short, back-short (s .pre .1 .cols), s .pre .2)
-
-finds-requires-5 : tie.Need-finds-requires-5
-finds-requires-5 c κs =
-    let s = start4 c in (s .pre .0, on-short (s .pre .1 .rows), back-short (s .pre .1 .cols), s .pre .2)
-
-finds-requires-6 : tie.Need-finds-requires-6
-finds-requires-6 c κs =
-    let s = start5 c in (s .pre .0, on-short (s .pre .1 .rows), on-short (s .pre .1 .cols), s .pre .2)
 
 -- ---- what each call tells
 
@@ -123,6 +95,36 @@ returns-5 c old seen = rw (passed4 (c .before .before) old seen, sym (tells5 (c 
 returns-6 : tie.Need-returns-6
 unfolding around
 returns-6 c old seen = rw (passed5 (c .before) old seen, around) (tells6 c old seen)
+
+-- ---- what the calls ask
+
+sub-oy : tie.Need-sub-oy
+sub-oy c = back-fits (c .before .pre .1 .rows)
+
+sub-ox : tie.Need-sub-ox
+sub-ox c = back-fits (c .before .pre .1 .cols)
+
+finds-requires : tie.Need-finds-requires
+finds-requires c κs =
+    let s = c .before in (s .pre .0, back-short (s .pre .1 .rows), back-short (s .pre .1 .cols), s .pre .2)
+
+finds-requires-2 : tie.Need-finds-requires-2
+finds-requires-2 c κs = let s = start1 c in (s .pre .0, back-short (s .pre .1 .rows), none-short, s .pre .2)
+
+finds-requires-3 : tie.Need-finds-requires-3
+finds-requires-3 c κs =
+    let s = start2 c in (s .pre .0, back-short (s .pre .1 .rows), on-short (s .pre .1 .cols), s .pre .2)
+
+finds-requires-4 : tie.Need-finds-requires-4
+finds-requires-4 c κs = let s = start3 c in (s .pre .0, none-short, back-short (s .pre .1 .cols), s .pre .2)
+
+finds-requires-5 : tie.Need-finds-requires-5
+finds-requires-5 c κs =
+    let s = start4 c in (s .pre .0, on-short (s .pre .1 .rows), back-short (s .pre .1 .cols), s .pre .2)
+
+finds-requires-6 : tie.Need-finds-requires-6
+finds-requires-6 c κs =
+    let s = start5 c in (s .pre .0, on-short (s .pre .1 .rows), on-short (s .pre .1 .cols), s .pre .2)
 
 pub around-spec : {M : Type 1} → statement M
 around-spec =

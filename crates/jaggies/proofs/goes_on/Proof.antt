@@ -5,6 +5,23 @@ use Rattle.jaggies.proofs.Signs.{back, twice, back-fits, sum-fits, back
 use Rattle.jaggies.proofs.goes_on.Statement.{statement}
 use Rattle.jaggies.proofs.goes_on.Tie as tie
 
+returns : tie.Need-returns
+unfolding goesOn
+returns c old shown =
+    let f = c .before .before in
+    let way = f .before .before .pre .1 in
+    rw (sym (rw (back (way .rows), twice (way .cols)) at (f .finds .ensures old shown)) ∙ c .before .if1 .taken, goesOn)
+    (rw (twice (way .rows), back (way .cols)) at (c .finds2 .ensures old shown))
+
+returns-2 : tie.Need-returns-2
+unfolding goesOn
+returns-2 c old shown =
+    let f = c .before in
+    let way = f .before .before .pre .1 in
+    rw (sym (rw (back (way .rows), twice (way .cols)) at (f .finds .ensures old shown)) ∙ c .if1 .left, goesOn) (c .if1 .left)
+
+-- ---- what the calls ask
+
 sub-finds : tie.Need-sub-finds
 sub-finds c = back-fits (c .before .pre .1 .rows)
 
@@ -25,21 +42,6 @@ finds-requires-2 : tie.Need-finds-requires-2
 finds-requires-2 c κs =
     let s = c .before .before .before in
     (s .pre .0, twice-short (s .pre .1 .rows), back-short (s .pre .1 .cols), s .pre .2)
-
-returns : tie.Need-returns
-unfolding goesOn
-returns c old shown =
-    let f = c .before .before in
-    let way = f .before .before .pre .1 in
-    rw (sym (rw (back (way .rows), twice (way .cols)) at (f .finds .ensures old shown)) ∙ c .before .if1 .taken, goesOn)
-    (rw (twice (way .rows), back (way .cols)) at (c .finds2 .ensures old shown))
-
-returns-2 : tie.Need-returns-2
-unfolding goesOn
-returns-2 c old shown =
-    let f = c .before in
-    let way = f .before .before .pre .1 in
-    rw (sym (rw (back (way .rows), twice (way .cols)) at (f .finds .ensures old shown)) ∙ c .if1 .left, goesOn) (c .if1 .left)
 
 pub goes-on-spec : {M : Type 1} → statement M
 goes-on-spec =
