@@ -84,12 +84,14 @@ none n t f = case (any n t) (λ y. let w = any-yes n t y in clash (w .2) (f (w .
 
 -- every double of a palette is near a * 2 ^ j, beta is near b * 2 ^ i, and the product of both is not above 1024
 module _ (a j b i : ℕ) (l : a * 2 ^ j ≤ 1024) (N : a * 2 ^ j * (b * 2 ^ i) ≤ 1024) (lab : List Float) (k : ℕ) (all : AllNear (fin false a (pos j)) lab (3 * k)) where
+  -- each double is of that size, and so in range
   held : (p : ℕ) → p < 3 * k → Sized (a * 2 ^ j) (getD lab p nan)
   held p h = near-sized a j (getD lab p nan) (all .each p h)
 
   kept : (p : ℕ) → p < 3 * k → within (getD lab p nan) ≡ true
   kept p h = sized-within (getD lab p nan) (wider (a * 2 ^ j) (getD lab p nan) l (held p h))
 
+  -- so no double is out of range, before or after
   calm-before : outOfRange (paletteOf lab k) ≡ false
   unfolding outOfRange
   calm-before = none (3 * k) _ (λ p h. ap not (kept p h))
@@ -114,17 +116,17 @@ pub record Thirds (reach : Float) (lab : List Float) (k n : ℕ) : Type 0 where
   pub second : (p : ℕ) → p < n → near reach (getD lab (k + p) nan) ≡ true
   pub third : (p : ℕ) → p < n → near reach (getD lab (2 * k + p) nan) ≡ true
 
+-- one more place passes
+more : (n : ℕ) (t : ℕ → Bool) → ((p : ℕ) → p < n → t p ≡ true) → t n ≡ true → (p : ℕ) → p < n + 1 → t p ≡ true
+more n t f e p h = go (decLt p n)
+  where
+    go : Dec (p < n) → t p ≡ true
+    go (yes y) = f p y
+    go (no z) = let q : p ≡ n = omega arith in rw q e
+
 module _ (reach : Float) (lab : List Float) (k : ℕ) where
   pub thirds-start : Thirds reach lab k 0
   thirds-start = record { first = λ p h. absurd (omega arith); second = λ p h. absurd (omega arith); third = λ p h. absurd (omega arith) }
-
-  -- one more
-  more : (n : ℕ) (t : ℕ → Bool) → ((p : ℕ) → p < n → t p ≡ true) → t n ≡ true → (p : ℕ) → p < n + 1 → t p ≡ true
-  more n t f e p h = go (decLt p n)
-    where
-      go : Dec (p < n) → t p ≡ true
-      go (yes y) = f p y
-      go (no z) = let q : p ≡ n = omega arith in rw q e
 
   pub thirds-step : (n : ℕ) {old a b c : Bool} → (old ≡ true → Thirds reach lab k n)
       → a ≡ near reach (getD lab n nan) → b ≡ near reach (getD lab (k + n) nan) → c ≡ near reach (getD lab (2 * k + n) nan)
