@@ -1,7 +1,7 @@
 -- `grid::label::alone`: the words of the places after s that can be its neighbours. Assumes nothing.
-use mathlib.Core.Path.{_≡_, sym}
+use mathlib.Core.Path.{_≡_}
 use mathlib.Core.Logic.{⊎-elim}
-use mathlib.Core.Bool.{true, false, true≢false}
+use mathlib.Core.Bool.{true, false, false≢true}
 use Prim.Native.Nat.{_*_, _≤_, _<_}
 use native.Mathlib.Nat.{le-refl, mul-le-mul}
 use native.Mathlib.Omega.{arith}
@@ -41,8 +41,9 @@ mul-if1 c = omega (arith, bounds c)
 shared-slice-read-if1 : tie.Need-shared-slice-read-if1
 shared-slice-read-if1 c = omega (arith, bounds (c .before))
 
+-- nothing is promised of the answer no
 not-alone : {A : Type 0} → false ≡ true → A
-not-alone z = absurd (true≢false (sym z))
+not-alone z = absurd (false≢true z)
 
 returns : tie.Need-returns
 returns c = not-alone
