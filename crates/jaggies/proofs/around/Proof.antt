@@ -96,7 +96,7 @@ returns-6 : tie.Need-returns-6
 unfolding around
 returns-6 c old seen = rw (passed5 (c .before) old seen, around) (tells6 c old seen)
 
--- ---- what the calls ask
+-- ---- what is asked on the way
 
 sub-oy : tie.Need-sub-oy
 sub-oy c = back-fits (c .before .pre .1 .rows)

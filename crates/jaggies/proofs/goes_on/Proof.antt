@@ -20,7 +20,7 @@ returns-2 c old shown =
     let way = f .before .before .pre .1 in
     rw (sym (rw (back (way .rows), twice (way .cols)) at (f .finds .ensures old shown)) ∙ c .if1 .left, goesOn) (c .if1 .left)
 
--- ---- what the calls ask
+-- ---- what is asked on the way
 
 sub-finds : tie.Need-sub-finds
 sub-finds c = back-fits (c .before .pre .1 .rows)
