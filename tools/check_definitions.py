@@ -172,7 +172,7 @@ ran c sat f m s p =
     record { cells = o .sheet .cells; lab = map (toBits binary64) (o .palette .lab); index = o .index; facts = o .sheet .height ∷ o .sheet .width ∷ o .palette .count ∷ cond (o .clipped) 1 0 ∷ o .passes ∷ o .again ∷ [] }
 
 """
-    words = ("cleaned trimmed lined ran Outputs.filled Palette.saturate Palette.recoloured Palette.firstWhere Outline.sameRgb8 Run.tidyIf Run.limitsOf Run.toned Run.padAllowed Run.outlineIf Run.process "
+    words = ("cleaned trimmed lined ran Outputs.filled Palette.saturate Palette.recoloured Palette.firstWhere Outline.sameRgb8 Run.padAllowed "
              "Channel.decodeOf Channel.thresholdOf Channel.byteOf Channel.straight Computed.cbrtOf Computed.leastNotBelow Ieee.toBits Ieee.div Lab.rgb8ToLab Lab.labToRgb8 Lab.labOfXyz Lab.xyzOfLab Lab.matVec Lab.dot Lab.labF Lab.labFInv "
              "Lab.xyzFromRgb Lab.rgbFromXyz Lab.white Lab.edge Lab.slope Lab.shift Lab.edgeInv")
     for j in range(0, len(pairs), 8):
