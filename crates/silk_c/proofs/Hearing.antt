@@ -7,7 +7,7 @@ use borrow.Author.Tests.{ltb-false}
 use Rattle.base.specs.Refusals.{refusal, unless}
 use Rattle.checks.proofs.Rows.{rows-none}
 use Rattle.rules.specs.Rows.{tooLarge, tooShort}
-use Rattle.silk_c.specs.Outcomes.{Outcome, refused, code, received}
+use Rattle.told.specs.Outcomes.{Outcome, refused, code, received}
 
 -- an answer as a number, by what the answer is
 pub numbered : {A : Type 0} (g : A → Outcome) {a b : A} {r : ℕ} → r ≡ code (g a) → a ≡ b → r ≡ code (g b)

@@ -1,3 +1,2 @@
 pub mod Hearing
-pub mod Stores
 pub mod Sizes

@@ -26,8 +26,8 @@ use Rattle.rules.specs.Palette.{Palette, saturate}
 use Rattle.rules.specs.Rows.{tooLarge, tooShort, cramped, badPalette}
 use Rattle.rules.specs.Run.{Limits, limitsOf, tidy, tidyIf, toned, padAllowed, outlineIf, process}
 use Rattle.rules.specs.Sheet.{Sheet, sheetOf}
-use Rattle.silk_c.specs.Outcomes.{indexFact}
-use Rattle.silk_c.specs.Room.{Small}
+use Rattle.told.specs.Outcomes.{indexFact}
+use Rattle.told.specs.Room.{Small}
 
 -- ---- the palette after a choice
 

@@ -1,3 +1,1 @@
-pub mod Outcomes
 pub mod Arguments
-pub mod Room

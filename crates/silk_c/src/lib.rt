@@ -1,16 +1,14 @@
 // The entries for C, on numbers and slices: each answers 0 for an accepted call, or the refusal's number.
-mod told;
-
-use crate::told::facts_rows;
-use crate::told::number;
-use crate::told::tell_colour;
-use crate::told::tell_outline;
-use crate::told::tell_passes;
-use crate::told::tell_regions;
-use crate::told::tell_run;
 use base::Filling;
 use rules::Outline;
 use rules::PostConfig;
+use told::facts_rows;
+use told::number;
+use told::tell_colour;
+use told::tell_outline;
+use told::tell_passes;
+use told::tell_regions;
+use told::tell_run;
 ghost use mathlib.Core.Path.{_≡_};
 ghost use mathlib.Core.List.{[], _∷_};
 ghost use lib.Dec.{ltb};
@@ -23,7 +21,7 @@ ghost use Rattle.rules.specs.Masks.{isSet, regionsAnswer, regionsLabels, maskAn
 ghost use Rattle.rules.specs.Entries.{orphansAnswer, orphansCells, jaggiesAnswer, jaggiesCells, outlineAnswer, outlineCells, outlinePalette, saturationAnswer, saturationPalette, runAnswer, runCells, runPalette};
 ghost use Rattle.orphans.specs.Entry.{limitsAt};
 ghost use Rattle.silk_c.specs.Arguments.{outlineOf, betaOf, configOf};
-ghost use Rattle.silk_c.specs.Outcomes.{refused, code, received, heard, done, labelled, cleaned, outlined, processed, coloured};
+ghost use Rattle.told.specs.Outcomes.{refused, code, received, heard, done, labelled, cleaned, outlined, processed, coloured};
 
 // Colours of sRGB as colours of CIELAB.
 #[no_mangle]

@@ -7,7 +7,7 @@ use lib.Dec.{ltb}
 use lib.ListN.{length}
 use Rattle.base.specs.Refusals.{row, refusal}
 use Rattle.checks.proofs.Rows.{row-hit, row-pass}
-use Rattle.silk_c.specs.Outcomes.{coloured}
+use Rattle.told.specs.Outcomes.{coloured}
 use Rattle.silk_c.proofs.Hearing.{turned-code, turned-facts, heard-code, heard-facts}
 use borrow.Author.Needs.{needs}
 use Rattle.silk_c.proofs.silk_hex_to_rgb8.Statement.{statement}

@@ -1,10 +1,10 @@
--- `silk_c::told::tell_regions` meets its contract: by the answer's cases. Assumes nothing.
+-- `told::tell_regions` meets its contract: by the answer's cases. Assumes nothing.
 use mathlib.Core.Path.{refl}
-use Rattle.silk_c.specs.Outcomes.{code, received, labelled}
-use Rattle.silk_c.proofs.Stores.{stored-one}
+use Rattle.told.specs.Outcomes.{code, received, labelled}
+use Rattle.told.proofs.Stores.{stored-one}
 use borrow.Author.Needs.{needs}
-use Rattle.silk_c.proofs.told.tell_regions.Statement.{statement}
-use Rattle.silk_c.proofs.told.tell_regions.Tie as tie
+use Rattle.told.proofs.tell_regions.Statement.{statement}
+use Rattle.told.proofs.tell_regions.Tie as tie
 
 enum-known-answer : tie.Need-enum-known-answer
 enum-known-answer c = search needs

@@ -1,9 +1,9 @@
--- `silk_c::told::tell_outline` meets its contract: by the answer's cases. Assumes nothing.
+-- `told::tell_outline` meets its contract: by the answer's cases. Assumes nothing.
 use mathlib.Core.Path.{refl}
-use Rattle.silk_c.specs.Outcomes.{code, received, outlined}
+use Rattle.told.specs.Outcomes.{code, received, outlined}
 use borrow.Author.Needs.{needs}
-use Rattle.silk_c.proofs.told.tell_outline.Statement.{statement}
-use Rattle.silk_c.proofs.told.tell_outline.Tie as tie
+use Rattle.told.proofs.tell_outline.Statement.{statement}
+use Rattle.told.proofs.tell_outline.Tie as tie
 
 enum-known-answer : tie.Need-enum-known-answer
 enum-known-answer c = search needs

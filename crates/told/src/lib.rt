@@ -14,8 +14,8 @@ ghost use Prim.Native.Nat.{ℕ, _≤_};
 ghost use lib.ListN.{length};
 ghost use Rattle.base.specs.Refusals.{refusal, filling};
 ghost use Rattle.rules.specs.Rows.{tooLarge, tooShort};
-ghost use Rattle.silk_c.specs.Outcomes.{given, code, received, done, labelled, cleaned, indexFact, factsList, outlined, processed, coloured};
-ghost use Rattle.silk_c.specs.Room.{Small};
+ghost use Rattle.told.specs.Outcomes.{given, code, received, done, labelled, cleaned, indexFact, factsList, outlined, processed, coloured};
+ghost use Rattle.told.specs.Room.{Small};
 
 // Rows 1 and 2 of an entry that has a list of facts: a side above 512, or fewer places than facts.
 pub fn facts_rows(h: usize, w: usize, have: usize, need: usize) -> Filling

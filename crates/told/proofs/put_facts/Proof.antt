@@ -1,11 +1,11 @@
--- `silk_c::told::put_facts` meets its contract: five numbers, stored one after the other. Assumes nothing.
+-- `told::put_facts` meets its contract: five numbers, stored one after the other. Assumes nothing.
 use native.Mathlib.Omega.{arith}
 use lib.ListN.{length-set}
-use Rattle.silk_c.specs.Outcomes.{factsList}
-use Rattle.silk_c.proofs.Stores.{stored-five}
+use Rattle.told.specs.Outcomes.{factsList}
+use Rattle.told.proofs.Stores.{stored-five}
 use borrow.Author.Needs.{needs}
-use Rattle.silk_c.proofs.told.put_facts.Statement.{statement}
-use Rattle.silk_c.proofs.told.put_facts.Tie as tie
+use Rattle.told.proofs.put_facts.Statement.{statement}
+use Rattle.told.proofs.put_facts.Tie as tie
 
 cast-facts : tie.Need-cast-facts
 cast-facts c = search needs

@@ -1,12 +1,12 @@
--- `silk_c::told::tell_colour` meets its contract: by the answer's cases. Assumes nothing.
+-- `told::tell_colour` meets its contract: by the answer's cases. Assumes nothing.
 use mathlib.Core.Path.{refl}
 use native.Mathlib.Omega.{arith}
 use lib.ListN.{length-set}
-use Rattle.silk_c.specs.Outcomes.{code, received, coloured}
-use Rattle.silk_c.proofs.Stores.{stored-three}
+use Rattle.told.specs.Outcomes.{code, received, coloured}
+use Rattle.told.proofs.Stores.{stored-three}
 use borrow.Author.Needs.{needs}
-use Rattle.silk_c.proofs.told.tell_colour.Statement.{statement}
-use Rattle.silk_c.proofs.told.tell_colour.Tie as tie
+use Rattle.told.proofs.tell_colour.Statement.{statement}
+use Rattle.told.proofs.tell_colour.Tie as tie
 
 enum-known-answer : tie.Need-enum-known-answer
 enum-known-answer c = search needs

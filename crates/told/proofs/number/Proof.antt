@@ -1,8 +1,8 @@
--- `silk_c::told::number` meets its contract: by the answer's cases. Assumes nothing.
-use Rattle.silk_c.specs.Outcomes.{code, done}
+-- `told::number` meets its contract: by the answer's cases. Assumes nothing.
+use Rattle.told.specs.Outcomes.{code, done}
 use borrow.Author.Needs.{needs}
-use Rattle.silk_c.proofs.told.number.Statement.{statement}
-use Rattle.silk_c.proofs.told.number.Tie as tie
+use Rattle.told.proofs.number.Statement.{statement}
+use Rattle.told.proofs.number.Tie as tie
 
 enum-told : tie.Need-enum-told
 enum-told c = search needs

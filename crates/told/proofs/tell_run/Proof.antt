@@ -1,11 +1,11 @@
--- `silk_c::told::tell_run` meets its contract: by the answer's cases. Assumes nothing.
+-- `told::tell_run` meets its contract: by the answer's cases. Assumes nothing.
 use mathlib.Core.Path.{refl}
 use native.Mathlib.Omega.{arith}
-use Rattle.silk_c.specs.Outcomes.{code, received, factsList, processed}
-use Rattle.silk_c.proofs.Stores.{stored-seven}
+use Rattle.told.specs.Outcomes.{code, received, factsList, processed}
+use Rattle.told.proofs.Stores.{stored-seven}
 use borrow.Author.Needs.{needs}
-use Rattle.silk_c.proofs.told.tell_run.Statement.{statement}
-use Rattle.silk_c.proofs.told.tell_run.Tie as tie
+use Rattle.told.proofs.tell_run.Statement.{statement}
+use Rattle.told.proofs.tell_run.Tie as tie
 
 enum-known-answer : tie.Need-enum-known-answer
 enum-known-answer c = search needs

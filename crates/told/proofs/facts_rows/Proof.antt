@@ -1,9 +1,9 @@
--- `silk_c::told::facts_rows` meets its contract: the first row that applies. Assumes nothing.
+-- `told::facts_rows` meets its contract: the first row that applies. Assumes nothing.
 use borrow.Author.Tests.{lt-ltb, le-ltb}
 use Rattle.base.specs.Refusals.{refusal, unless, filling}
 use Rattle.rules.specs.Rows.{tooLarge, tooShort}
-use Rattle.silk_c.proofs.told.facts_rows.Statement.{statement}
-use Rattle.silk_c.proofs.told.facts_rows.Tie as tie
+use Rattle.told.proofs.facts_rows.Statement.{statement}
+use Rattle.told.proofs.facts_rows.Tie as tie
 
 returns : tie.Need-returns
 unfolding filling unless refusal tooLarge tooShort

@@ -1,9 +1,9 @@
--- `silk_c::told::index_fact` meets its contract: by the index's cases. Assumes nothing.
+-- `told::index_fact` meets its contract: by the index's cases. Assumes nothing.
 use native.Mathlib.Omega.{arith}
-use Rattle.silk_c.specs.Outcomes.{indexFact}
+use Rattle.told.specs.Outcomes.{indexFact}
 use borrow.Author.Needs.{needs}
-use Rattle.silk_c.proofs.told.index_fact.Statement.{statement}
-use Rattle.silk_c.proofs.told.index_fact.Tie as tie
+use Rattle.told.proofs.index_fact.Statement.{statement}
+use Rattle.told.proofs.index_fact.Tie as tie
 
 enum-told : tie.Need-enum-told
 enum-told c = search needs

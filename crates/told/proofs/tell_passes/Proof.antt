@@ -1,10 +1,10 @@
--- `silk_c::told::tell_passes` meets its contract: by the answer's cases. Assumes nothing.
+-- `told::tell_passes` meets its contract: by the answer's cases. Assumes nothing.
 use mathlib.Core.Path.{refl}
-use Rattle.silk_c.specs.Outcomes.{code, received, cleaned}
-use Rattle.silk_c.proofs.Stores.{stored-one}
+use Rattle.told.specs.Outcomes.{code, received, cleaned}
+use Rattle.told.proofs.Stores.{stored-one}
 use borrow.Author.Needs.{needs}
-use Rattle.silk_c.proofs.told.tell_passes.Statement.{statement}
-use Rattle.silk_c.proofs.told.tell_passes.Tie as tie
+use Rattle.told.proofs.tell_passes.Statement.{statement}
+use Rattle.told.proofs.tell_passes.Tie as tie
 
 enum-known-answer : tie.Need-enum-known-answer
 enum-known-answer c = search needs
