@@ -1,11 +1,13 @@
 -- What a call comes to whose own rows stand before those of its entry: that they refuse it, and that they pass it. Assumes nothing.
 use Prim.Native.Nat.{ℕ, _≤_}
-use mathlib.Core.Path.{_≡_, refl, ap, _∙_}
+use mathlib.Core.Path.{_≡_, refl, sym, ap, _∙_}
 use mathlib.Core.List.{List, [], _∷_}
 use mathlib.Core.Option.{Option, none, some}
 use borrow.Author.Tests.{ltb-false}
-use Rattle.base.specs.Refusals.{refusal, unless}
-use Rattle.checks.proofs.Rows.{rows-none}
+use Rattle.base.specs.Refusals.{refusal, unless, filling}
+use Rattle.base.specs.declared.Filling.{Filling}
+use Rattle.base.specs.declared.Filling.the-variants.{Done, Refused}
+use Rattle.checks.proofs.Rows.{rows-none, refused-by, passed}
 use Rattle.rules.specs.Rows.{tooLarge, tooShort}
 use Rattle.told.specs.Outcomes.{Outcome, refused, code, received}
 
@@ -14,39 +16,48 @@ pub numbered : {A : Type 0} (g : A → Outcome) {a b : A} {r : ℕ} → r ≡ co
 numbered {A} g e q = e ∙ ap (λ (x : A). code (g x)) q
 
 module _ (o : Option ℕ) where
-  -- a row refuses: the call gives its number and leaves the lists
-  module _ {n : ℕ} (e : o ≡ some n) where
-    pub turned-code : (x : Outcome) → n ≡ code (unless o refused x)
-    unfolding unless code
-    turned-code x = rw e
+  -- a row refuses: the call gives its number and leaves the facts
+  pub turned : {n : ℕ} → o ≡ some n → (x : Outcome) (facts : List ℕ) → (n ≡ code (unless o refused x)) × (facts ≡ received (unless o refused x) facts)
+  unfolding unless code received
+  turned e x facts = rw e (refl, refl)
 
-    pub turned-facts : (x : Outcome) (l : List ℕ) → l ≡ received (unless o refused x) l
-    unfolding unless received
-    turned-facts x l = rw e
+  -- none does: the call gives what its entry answers, by what the answer is
+  pub answered : o ≡ none → {A : Type 0} (g : A → Outcome) {a b : A} {n : ℕ} (facts : List ℕ) {new : List ℕ} → (n ≡ code (g a)) × (new ≡ received (g a) facts) → a ≡ b
+      → (n ≡ code (unless o refused (g b))) × (new ≡ received (unless o refused (g b)) facts)
+  unfolding unless
+  answered e {A} g facts t q = rw e (numbered g (t .0) q, t .1 ∙ ap (λ (x : A). received (g x) facts) q)
 
-    pub turned-list : {A : Type 0} (l m : List A) → l ≡ unless o (λ k. l) m
+-- the same of a call that lends lists besides: one, or two
+module _ (o : Option ℕ) {r : Filling} (e : r ≡ filling o) where
+  module _ {n : ℕ} (q : r ≡ Refused n) where
+    left : {A : Type 0} (l m : List A) → l ≡ unless o (λ k. l) m
     unfolding unless
-    turned-list l m = rw e
+    left l m = rw (refused-by o n (sym e ∙ q))
 
-  -- none does: the call gives what its entry answers, by what the answer is, and leaves what its entry leaves
-  module _ (e : o ≡ none) where
-    pub heard-code : {A : Type 0} (g : A → Outcome) {a b : A} {r : ℕ} → r ≡ code (g a) → a ≡ b → r ≡ code (unless o refused (g b))
+    pub turned-one : (x : Outcome) {A : Type 0} (l m : List A) (facts : List ℕ) → (n ≡ code (unless o refused x)) × ((l ≡ unless o (λ k. l) m) × (facts ≡ received (unless o refused x) facts))
+    turned-one x l m facts = let t = turned o (refused-by o n (sym e ∙ q)) x facts in (t .0, (left l m, t .1))
+
+    pub turned-two : (x : Outcome) {A : Type 0} (l m : List A) {B : Type 0} (p s : List B) (facts : List ℕ)
+        → (n ≡ code (unless o refused x)) × ((l ≡ unless o (λ k. l) m) × ((p ≡ unless o (λ k. p) s) × (facts ≡ received (unless o refused x) facts)))
+    turned-two x l m p s facts = let t = turned-one x p s facts in (t .0, (left l m, t .1))
+
+  module _ (q : r ≡ Done) where
+    changed : {A : Type 0} (l : List A) {m n : List A} → n ≡ m → n ≡ unless o (λ k. l) m
     unfolding unless
-    heard-code g d q = rw e (numbered g d q)
+    changed l d = rw (passed o (sym e ∙ q)) d
 
-    pub heard-facts : {A : Type 0} (g : A → Outcome) {a b : A} (l : List ℕ) {m : List ℕ} → m ≡ received (g a) l → a ≡ b → m ≡ received (unless o refused (g b)) l
-    unfolding unless
-    heard-facts {A} g l d q = rw e (d ∙ ap (λ (x : A). received (g x) l) q)
+    module _ {A : Type 0} (g : A → Outcome) {a b : A} {n : ℕ} (facts : List ℕ) {new : List ℕ} (t : (n ≡ code (g a)) × (new ≡ received (g a) facts)) where
+      pub heard-one : {B : Type 0} (l : List B) {m m' : List B} → (a ≡ b) × (m' ≡ m)
+          → (n ≡ code (unless o refused (g b))) × ((m' ≡ unless o (λ k. l) m) × (new ≡ received (unless o refused (g b)) facts))
+      heard-one l d = let s = answered o (passed o (sym e ∙ q)) g facts t (d .0) in (s .0, (changed l (d .1), s .1))
 
-    pub heard-list : {A : Type 0} (l : List A) {m n : List A} → n ≡ m → n ≡ unless o (λ k. l) m
-    unfolding unless
-    heard-list l d = rw e d
+      pub heard-two : {B : Type 0} (l : List B) {m m' : List B} {C : Type 0} (p : List C) {s s' : List C} → (a ≡ b) × ((m' ≡ m) × (s' ≡ s))
+          → (n ≡ code (unless o refused (g b))) × ((m' ≡ unless o (λ k. l) m) × ((s' ≡ unless o (λ k. p) s) × (new ≡ received (unless o refused (g b)) facts)))
+      heard-two l p d = let s = heard-one p (d .0, d .1 .1) in (s .0, (changed l (d .1 .0), s .1))
 
--- rows 1 and 2 of a call with a list of facts
-abbrev pub first : ℕ → ℕ → ℕ → ℕ → Option ℕ
-first h w have need = refusal (tooLarge h w ∷ tooShort have need ∷ [])
-
--- the facts have their places
-pub roomy : (h w have need : ℕ) → first h w have need ≡ none → need ≤ have
+-- the facts of a call that rows 1 and 2 pass have their places
+pub roomy : (h w have need : ℕ) {r : Filling} → r ≡ filling (refusal (tooLarge h w ∷ tooShort have need ∷ [])) → r ≡ Done → need ≤ have
 unfolding tooShort
-roomy h w have need e = ltb-false have need (rows-none (tooShort have need) [] (rows-none (tooLarge h w) (tooShort have need ∷ []) e .1) .0)
+roomy h w have need e q =
+    let z = passed _ (sym e ∙ q) in
+    ltb-false have need (rows-none (tooShort have need) [] (rows-none (tooLarge h w) (tooShort have need ∷ []) z .1) .0)

@@ -1,6 +1,6 @@
 -- The facts of an accepted outline, or run, fit 32-bit numbers: sides up to 514, at most 256 colours, and an index among them. Assumes nothing.
 use Prim.Native.Nat.{ℕ, _+_, _≤_, _<_}
-use mathlib.Core.Path.{_≡_, refl, subst}
+use mathlib.Core.Path.{_≡_, refl, sym, subst, _∙_}
 use mathlib.Core.Bool.{Bool, true, false, _&&_, _||_, cond}
 use mathlib.Core.List.{List, [], _∷_}
 use mathlib.Core.Option.{Option, none, some}
@@ -14,9 +14,11 @@ use Rattle.checks.proofs.Rows.{rows-none, not-large, good-palette}
 use Rattle.line.proofs.Choosing.{index-below}
 use Rattle.rules.specs.declared.Facts.{Facts}
 use Rattle.rules.specs.declared.Outline.{Outline}
+use Rattle.rules.specs.declared.Outlining.{Outlining}
 use Rattle.rules.specs.declared.Outlining.the-variants as outlinings
 use Rattle.rules.specs.declared.Outlining.the-variants.{Drawn}
 use Rattle.rules.specs.declared.PostConfig.{PostConfig}
+use Rattle.rules.specs.declared.Processing.{Processing}
 use Rattle.rules.specs.declared.Processing.the-variants as processings
 use Rattle.rules.specs.declared.Processing.the-variants.{Processed}
 use Rattle.rules.specs.Corners.{trim}
@@ -118,10 +120,10 @@ within-limits h w len work need palette rest e =
     (sides .0, sides .1, good-palette palette (four .0) .0)
 
 module _ (cells : List ℤ) (h w : ℕ) (palette : Palette) (how : Outline) (allowed fixed : Bool) (work : ℕ) where
-  pub drawn-small : (f : Facts) → outlineAnswer cells h w palette how allowed fixed work ≡ Drawn f → Small f
+  pub drawn-small : {o : Outlining} → o ≡ outlineAnswer cells h w palette how allowed fixed work → (f : Facts) → o ≡ Drawn f → Small f
   unfolding outlineAnswer outlineRefusal sheetOf
-  drawn-small f e =
-      let a = accepted (outlineRefusal cells h w palette how allowed fixed work) outlinings.Refused _ (Drawn f) (λ n q. (let z : _≡_ {A = ℕ} 0 1 = cc in omega arith)) e in
+  drawn-small d f e =
+      let a = accepted (outlineRefusal cells h w palette how allowed fixed work) outlinings.Refused _ (Drawn f) (λ n q. (let z : _≡_ {A = ℕ} 0 1 = cc in omega arith)) (sym d ∙ e) in
       let l = within-limits h w _ work _ palette _ (a .0) in
       subst Small (same (a .1)) (outline-small allowed fixed how (sheetOf cells h w) palette (l .0) (l .1) (l .2))
     where
@@ -129,10 +131,10 @@ module _ (cells : List ℤ) (h w : ℕ) (palette : Palette) (how : Outline) (all
       same r = cc
 
 module _ (cells : List ℤ) (h w : ℕ) (palette : Palette) (config : PostConfig) (saturated fixed : Bool) (margin : ℤ) (work : ℕ) where
-  pub processed-small : (f : Facts) (p q : ℕ) → runAnswer cells h w palette config saturated fixed margin work ≡ Processed f p q → Small f
+  pub processed-small : {o : Processing} → o ≡ runAnswer cells h w palette config saturated fixed margin work → (f : Facts) (p q : ℕ) → o ≡ Processed f p q → Small f
   unfolding runAnswer runRefusal sheetOf
-  processed-small f p q e =
-      let a = accepted (runRefusal cells h w palette config saturated fixed margin work) processings.Refused _ (Processed f p q) (λ n r. (let z : _≡_ {A = ℕ} 0 1 = cc in omega arith)) e in
+  processed-small d f p q e =
+      let a = accepted (runRefusal cells h w palette config saturated fixed margin work) processings.Refused _ (Processed f p q) (λ n r. (let z : _≡_ {A = ℕ} 0 1 = cc in omega arith)) (sym d ∙ e) in
       let l = within-limits h w _ work _ palette _ (a .0) in
       subst Small (same (a .1)) (process-small config saturated fixed margin (sheetOf cells h w) palette (l .0) (l .1) (l .2))
     where

@@ -1,31 +1,10 @@
 -- `silk_c::silk_add_outline` meets its contract: rows 1 and 2 for its facts, then what its entry answers. Assumes nothing.
-use mathlib.Core.Path.{_≡_, sym, _∙_}
-use Prim.Native.Nat.{ℕ}
-use mathlib.Core.Option.{Option, none}
-use lib.ListN.{length}
-use Rattle.checks.proofs.Rows.{refused-by, passed}
-use Rattle.rules.specs.Masks.{isSet}
-use Rattle.rules.specs.Palette.{paletteOf}
-use Rattle.silk_c.specs.Arguments.{outlineOf}
 use Rattle.told.specs.Outcomes.{heard, outlined}
-use Rattle.silk_c.proofs.Hearing.{turned-code, turned-facts, turned-list, heard-code, heard-facts, heard-list, first, roomy}
+use Rattle.silk_c.proofs.Hearing.{turned-two, heard-two, roomy}
 use Rattle.silk_c.proofs.Sizes.{drawn-small}
 use borrow.Author.Needs.{needs}
 use Rattle.silk_c.proofs.silk_add_outline.Statement.{statement}
 use Rattle.silk_c.proofs.silk_add_outline.Tie as tie
-
-abbrev rows : tie.Start → Option ℕ
-rows s = first (s .args .h) (s .args .w) (length (s .args .facts .now)) 5
-
--- the place after the check of the rows, and the function's start
-abbrev checked : tie.After-enum-told → tie.After-facts-rows
-checked c = c .before .before
-
-abbrev start : tie.After-facts-rows → tie.Start
-start c = c .before .before .before .before
-
-clear : (c : tie.After-enum-told) → rows (start (checked c)) ≡ none
-clear c = passed (rows (start (checked c))) (sym (checked c .facts-rows .ensures) ∙ c .enum-told .given .1)
 
 facts-rows-requires : tie.Need-facts-rows-requires
 facts-rows-requires c κs = search needs
@@ -38,11 +17,7 @@ cast-result c = search needs
 
 returns : tie.Need-returns
 unfolding heard
-returns c =
-    let f = c .before .before .before in
-    let s = start f in
-    let e = refused-by (rows s) _ (sym (f .facts-rows .ensures) ∙ c .before .n .given .1) in
-    (turned-code (rows s) e _, (turned-list (rows s) e _ _, (turned-list (rows s) e _ _, turned-facts (rows s) e _ _)))
+returns c = turned-two _ (c .before .before .before .facts-rows .ensures) (c .before .n .given .1) _ _ _ _ _ _
 
 enum-told : tie.Need-enum-told
 enum-told c = search needs
@@ -62,13 +37,8 @@ add-outline-requires c κs = search needs
 tell-outline-requires : tie.Need-tell-outline-requires
 tell-outline-requires c κs =
     let l = c .before .before .before .before .before .before in
-    let i = l .before .before .before .before in
-    let u = i .before .before .before in
-    let a = start (checked u) .args in
-    let r = rw (i .before .before .outline-of .ensures, i .before .is-set .ensures, i .is-set2 .ensures) at (l .add-outline .ensures) in (
-      λ f q. drawn-small (a .cells .now) (a .h) (a .w) (paletteOf (a .palette .now) (a .k)) (outlineOf (a .kind) (a .darken) (a .r) (a .g) (a .b)) (isSet (a .allow-pad)) (isSet (a .fixed-palette)) (length (a .work .now)) f (sym (r .0) ∙ q),
-      roomy (a .h) (a .w) (length (a .facts .now)) 5 (clear u),
-    )
+    let u = l .before .before .before .before .before .before .before in
+    (drawn-small _ _ _ _ _ _ _ _ (l .add-outline .ensures .0), roomy _ _ _ _ (u .before .before .facts-rows .ensures) (u .enum-told .given .1))
 
 same-length : tie.Need-same-length
 same-length c = search needs
@@ -89,15 +59,8 @@ returns-2 c =
     let l = t .before .before .before .before .before .before .before in
     let i = l .before .before .before .before in
     let u = i .before .before .before in
-    let s = start (checked u) in
-    let e = clear u in
-    let r = rw (i .before .before .outline-of .ensures, i .before .is-set .ensures, i .is-set2 .ensures) at (l .add-outline .ensures) in (
-      heard-code (rows s) e outlined (t .tell-outline .ensures .0) (r .0),
-      (
-        heard-list (rows s) e (s .args .cells .now) (r .1 .0),
-        (heard-list (rows s) e (s .args .palette .now) (r .1 .1), heard-facts (rows s) e outlined (s .args .facts .now) (t .tell-outline .ensures .1) (r .0)),
-      ),
-    )
+    let r = rw (i .before .before .outline-of .ensures, i .before .is-set .ensures, i .is-set2 .ensures) at (l .add-outline .ensures) in
+    heard-two _ (u .before .before .facts-rows .ensures) (u .enum-told .given .1) outlined _ (t .tell-outline .ensures) _ _ r
 
 pub silk-add-outline-spec : {M : Type 1} → statement M
 silk-add-outline-spec =

@@ -8,7 +8,7 @@ use lib.ListN.{length}
 use Rattle.base.specs.Refusals.{row, refusal}
 use Rattle.checks.proofs.Rows.{row-hit, row-pass}
 use Rattle.told.specs.Outcomes.{coloured}
-use Rattle.silk_c.proofs.Hearing.{turned-code, turned-facts, heard-code, heard-facts}
+use Rattle.silk_c.proofs.Hearing.{turned, answered}
 use borrow.Author.Needs.{needs}
 use Rattle.silk_c.proofs.silk_hex_to_rgb8.Statement.{statement}
 use Rattle.silk_c.proofs.silk_hex_to_rgb8.Tie as tie
@@ -20,7 +20,7 @@ returns : tie.Need-returns
 returns c =
     let s = c .before .before .before in
     let e = row-hit (row 2 (ltb (length (s .args .out .now)) 3)) [] (lt-ltb _ _ (c .if1 .taken)) in
-    (turned-code (rows s) e _, turned-facts (rows s) e _ _)
+    turned (rows s) e _ _
 
 hex-to-rgb8-requires : tie.Need-hex-to-rgb8-requires
 hex-to-rgb8-requires c κs = search needs
@@ -38,7 +38,7 @@ returns-2 c =
     let x = t .before .before in
     let s = x .before .before .before .before in
     let e = row-pass (row 2 (ltb (length (s .args .out .now)) 3)) [] (le-ltb _ _ (x .before .if1 .left)) in
-    (heard-code (rows s) e coloured (t .tell-colour .ensures .0) (x .hex-to-rgb8 .ensures), heard-facts (rows s) e coloured (s .args .out .now) (t .tell-colour .ensures .1) (x .hex-to-rgb8 .ensures))
+    answered (rows s) e coloured _ (t .tell-colour .ensures) (x .hex-to-rgb8 .ensures)
 
 pub silk-hex-to-rgb8-spec : {M : Type 1} → statement M
 silk-hex-to-rgb8-spec =

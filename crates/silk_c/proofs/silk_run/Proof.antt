@@ -1,32 +1,11 @@
 -- `silk_c::silk_run` meets its contract: rows 1 and 2 for its facts, then what its entry answers. Assumes nothing.
-use mathlib.Core.Path.{_≡_, sym, _∙_}
-use Prim.Native.Nat.{ℕ}
-use mathlib.Core.Option.{Option, none}
-use lib.ListN.{length}
 use mir.Facts.{toZ-ofZ}
-use Rattle.checks.proofs.Rows.{refused-by, passed}
-use Rattle.rules.specs.Masks.{isSet}
-use Rattle.rules.specs.Palette.{paletteOf}
-use Rattle.silk_c.specs.Arguments.{outlineOf, betaOf, configOf}
 use Rattle.told.specs.Outcomes.{heard, processed}
-use Rattle.silk_c.proofs.Hearing.{turned-code, turned-facts, turned-list, heard-code, heard-facts, heard-list, first, roomy}
+use Rattle.silk_c.proofs.Hearing.{turned-two, heard-two, roomy}
 use Rattle.silk_c.proofs.Sizes.{processed-small}
 use borrow.Author.Needs.{needs}
 use Rattle.silk_c.proofs.silk_run.Statement.{statement}
 use Rattle.silk_c.proofs.silk_run.Tie as tie
-
-abbrev rows : tie.Start → Option ℕ
-rows s = first (s .args .h) (s .args .w) (length (s .args .facts .now)) 7
-
--- the place after the check of the rows, and the function's start
-abbrev checked : tie.After-enum-told → tie.After-facts-rows
-checked c = c .before .before
-
-abbrev start : tie.After-facts-rows → tie.Start
-start c = c .before .before .before .before
-
-clear : (c : tie.After-enum-told) → rows (start (checked c)) ≡ none
-clear c = passed (rows (start (checked c))) (sym (checked c .facts-rows .ensures) ∙ c .enum-told .given .1)
 
 facts-rows-requires : tie.Need-facts-rows-requires
 facts-rows-requires c κs = search needs
@@ -39,11 +18,7 @@ cast-result c = search needs
 
 returns : tie.Need-returns
 unfolding heard
-returns c =
-    let f = c .before .before .before in
-    let s = start f in
-    let e = refused-by (rows s) _ (sym (f .facts-rows .ensures) ∙ c .before .n .given .1) in
-    (turned-code (rows s) e _, (turned-list (rows s) e _ _, (turned-list (rows s) e _ _, turned-facts (rows s) e _ _)))
+returns c = turned-two _ (c .before .before .before .facts-rows .ensures) (c .before .n .given .1) _ _ _ _ _ _
 
 enum-told : tie.Need-enum-told
 enum-told c = search needs
@@ -69,22 +44,8 @@ run-requires c κs = search needs
 tell-run-requires : tie.Need-tell-run-requires
 tell-run-requires c κs =
     let l = c .before .before .before .before .before .before in
-    let i = l .before .before .before .before in
-    let u = i .before .before .before .before .before in
-    let s = start (checked u) in
-    let a = s .args in
-    let r = rw (
-      i .before .before .config-of .ensures,
-      i .before .before .before .before .beta-of .ensures,
-      i .before .before .before .outline-of .ensures,
-      i .before .is-set .ensures,
-      i .is-set2 .ensures,
-      toZ-ofZ (s .fits .region),
-      toZ-ofZ (s .fits .margin),
-    ) at (l .run .ensures) in (
-      λ f p q e. processed-small (a .cells .now) (a .h) (a .w) (paletteOf (a .palette .now) (a .k)) (configOf (betaOf (a .kind) (a .beta)) (a .orphans) (a .region) (a .delta) (a .jaggies) (outlineOf (a .kind) (a .darken) (a .r) (a .g) (a .b)) (a .tileset)) (isSet (a .saturated)) (isSet (a .fixed-palette)) (a .margin) (length (a .work .now)) f p q (sym (r .0) ∙ e),
-      roomy (a .h) (a .w) (length (a .facts .now)) 7 (clear u),
-    )
+    let u = l .before .before .before .before .before .before .before .before .before in
+    (processed-small _ _ _ _ _ _ _ _ _ (l .run .ensures .0), roomy _ _ _ _ (u .before .before .facts-rows .ensures) (u .enum-told .given .1))
 
 same-length : tie.Need-same-length
 same-length c = search needs
@@ -105,8 +66,7 @@ returns-2 c =
     let l = t .before .before .before .before .before .before .before in
     let i = l .before .before .before .before in
     let u = i .before .before .before .before .before in
-    let s = start (checked u) in
-    let e = clear u in
+    let s = u .before .before .before .before .before .before in
     let r = rw (
       i .before .before .config-of .ensures,
       i .before .before .before .before .beta-of .ensures,
@@ -115,13 +75,8 @@ returns-2 c =
       i .is-set2 .ensures,
       toZ-ofZ (s .fits .region),
       toZ-ofZ (s .fits .margin),
-    ) at (l .run .ensures) in (
-      heard-code (rows s) e processed (t .tell-run .ensures .0) (r .0),
-      (
-        heard-list (rows s) e (s .args .cells .now) (r .1 .0),
-        (heard-list (rows s) e (s .args .palette .now) (r .1 .1), heard-facts (rows s) e processed (s .args .facts .now) (t .tell-run .ensures .1) (r .0)),
-      ),
-    )
+    ) at (l .run .ensures) in
+    heard-two _ (u .before .before .facts-rows .ensures) (u .enum-told .given .1) processed _ (t .tell-run .ensures) _ _ r
 
 pub silk-run-spec : {M : Type 1} → statement M
 silk-run-spec =
