@@ -30,6 +30,7 @@ module _ (o : Option ℕ) where
 -- the same of a call that lends lists besides: one, or two
 module _ (o : Option ℕ) {r : Filling} (e : r ≡ filling o) where
   module _ {n : ℕ} (q : r ≡ Refused n) where
+    -- a lent list stays
     left : {A : Type 0} (l m : List A) → l ≡ unless o (λ k. l) m
     unfolding unless
     left l m = rw (refused-by o n (sym e ∙ q))
@@ -42,6 +43,7 @@ module _ (o : Option ℕ) {r : Filling} (e : r ≡ filling o) where
     turned-two x l m p s facts = let t = turned-one x p s facts in (t .0, (left l m, t .1))
 
   module _ (q : r ≡ Done) where
+    -- a lent list is what the entry left
     changed : {A : Type 0} (l : List A) {m n : List A} → n ≡ m → n ≡ unless o (λ k. l) m
     unfolding unless
     changed l d = rw (passed o (sym e ∙ q)) d

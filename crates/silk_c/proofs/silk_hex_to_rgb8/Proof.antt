@@ -1,10 +1,6 @@
 -- `silk_c::silk_hex_to_rgb8` meets its contract: refused by 2 for too short an output, else what the text names. Assumes nothing.
-use Prim.Native.Nat.{ℕ}
-use mathlib.Core.Option.{Option}
-use mathlib.Core.List.{[], _∷_}
+use mathlib.Core.List.{[]}
 use borrow.Author.Tests.{lt-ltb, le-ltb}
-use lib.Dec.{ltb}
-use lib.ListN.{length}
 use Rattle.base.specs.Refusals.{row, refusal}
 use Rattle.checks.proofs.Rows.{row-hit, row-pass}
 use Rattle.told.specs.Outcomes.{coloured}
@@ -13,14 +9,8 @@ use borrow.Author.Needs.{needs}
 use Rattle.silk_c.proofs.silk_hex_to_rgb8.Statement.{statement}
 use Rattle.silk_c.proofs.silk_hex_to_rgb8.Tie as tie
 
-abbrev rows : tie.Start → Option ℕ
-rows s = refusal (row 2 (ltb (length (s .args .out .now)) 3) ∷ [])
-
 returns : tie.Need-returns
-returns c =
-    let s = c .before .before .before in
-    let e = row-hit (row 2 (ltb (length (s .args .out .now)) 3)) [] (lt-ltb _ _ (c .if1 .taken)) in
-    turned (rows s) e _ _
+returns c = turned _ (row-hit (row 2 _) [] (lt-ltb _ _ (c .if1 .taken))) _ _
 
 hex-to-rgb8-requires : tie.Need-hex-to-rgb8-requires
 hex-to-rgb8-requires c κs = search needs
@@ -36,9 +26,7 @@ unfolding refusal
 returns-2 c =
     let t = c .before .before in
     let x = t .before .before in
-    let s = x .before .before .before .before in
-    let e = row-pass (row 2 (ltb (length (s .args .out .now)) 3)) [] (le-ltb _ _ (x .before .if1 .left)) in
-    answered (rows s) e coloured _ (t .tell-colour .ensures) (x .hex-to-rgb8 .ensures)
+    answered _ (row-pass (row 2 _) [] (le-ltb _ _ (x .before .if1 .left))) coloured _ (t .tell-colour .ensures) (x .hex-to-rgb8 .ensures)
 
 pub silk-hex-to-rgb8-spec : {M : Type 1} → statement M
 silk-hex-to-rgb8-spec =

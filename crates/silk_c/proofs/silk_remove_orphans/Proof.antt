@@ -45,7 +45,9 @@ returns-2 c =
     let t = c .before .before in
     let l = t .before .before .before .before .before in
     let u = l .before .before .before in
-    heard-one _ (u .before .before .facts-rows .ensures) (u .enum-told .given .1) cleaned _ (t .tell-passes .ensures) _ (rw (toZ-ofZ (u .before .before .before .before .before .before .fits .orphan-min-region)) at (l .remove-orphans .ensures))
+    let s = u .before .before .before .before .before .before in
+    let r = rw (toZ-ofZ (s .fits .orphan-min-region)) at (l .remove-orphans .ensures) in
+    heard-one _ (u .before .before .facts-rows .ensures) (u .enum-told .given .1) cleaned _ (t .tell-passes .ensures) _ r
 
 pub silk-remove-orphans-spec : {M : Type 1} → statement M
 silk-remove-orphans-spec =
