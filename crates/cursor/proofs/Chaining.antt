@@ -1,13 +1,50 @@
--- What an answer says of a reading, and what a chain of readings has read. Assumes nothing.
+-- What an answer says of a reading, how a chain of readings goes on, and what it has read. Assumes nothing.
 use Prim.Native.Nat.{ℕ}
 use mathlib.Core.Path.{_≡_, refl, sym, ap, _∙_}
 use mathlib.Core.List.{List}
 use native.Mathlib.Omega.{arith}
-use Rattle.cursor.specs.Reader.{Got, got, refused, Reader, chain, _>>=_, _>>_, give, bytes, newline, line}
+use Rattle.cursor.specs.Reader.{Got, got, refused, Reader, chain, _>>=_, _>>_, give, bytes, newline, line, numberLine, switchLine}
+use Rattle.cursor.specs.Answers.{numbered, switched, sized, passed, wished, opted}
+use Rattle.cursor.specs.Lines.{sizes, passes, outlineLine, options}
 
 -- an answer that means g, and is s, gives what s means
 pub known : {R A : Type 0} (f : R → Got A) {r s : R} {g : Got A} → f r ≡ g → r ≡ s → g ≡ f s
 known f e q = sym e ∙ ap f q
+
+-- ---- one more answer
+
+-- the answer to a reading p is known, by its meaning m: a chain goes on with what p gave, or ends with its refusal
+abbrev pub Onward : {R A : Type 0} → (List ℕ → R → Got A) → Reader A → Type 1
+Onward {R} {A} m p = (B : Type 0) (text from : List ℕ) (f : A → Reader B) (r s : R) (w : Got B) → m text r ≡ p from → r ≡ s → w ≡ chain (m text s) f → w ≡ chain (p from) f
+
+onward : {R A : Type 0} (m : List ℕ → R → Got A) (p : Reader A) → Onward m p
+onward m p B text from f r s w e q h = rw (known (m text) e q) h
+
+-- one more line
+pub number-next : (key : List ℕ) → Onward numbered (numberLine key)
+number-next key = onward numbered (numberLine key)
+
+pub switch-next : (key : List ℕ) → Onward switched (switchLine key)
+switch-next key = onward switched (switchLine key)
+
+pub ruleset lines = (number-next, switch-next)
+
+-- one more part of the head
+pub sizes-next : Onward sized sizes
+sizes-next = onward sized sizes
+
+pub passes-next : Onward passed passes
+passes-next = onward passed passes
+
+pub outline-next : Onward wished outlineLine
+outline-next = onward wished outlineLine
+
+pub options-next : Onward opted options
+options-next = onward opted options
+
+pub ruleset parts = (sizes-next, passes-next, outline-next, options-next)
+
+-- ---- what a chain has read
 
 -- what a chain that got something read first
 pub record First {A B : Type 0} (g : Got A) (f : A → Reader B) (x : B) (end : List ℕ) : Type 0 where

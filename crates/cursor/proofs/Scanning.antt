@@ -13,9 +13,12 @@ use borrow.Author.Tests.{le-leb, lt-leb, eq-eqb, ne-eqb, leb-true, leb-false, eq
 use Rattle.base.proofs.Counting.{case, left, right, clash}
 use Rattle.cursor.specs.Reader.{got, refused, chain, _>>=_, bytes, front, run, inLine, isDigit, value, proper, numberOf, number, atMinus, line, numberLine, _>>_, give, newline}
 use Rattle.cursor.specs.Lines.{hexOf, hexLine}
-use Rattle.cursor.specs.Answers.{Decimal}
+use Rattle.cursor.specs.Answers.{numbered, Decimal}
+use Rattle.cursor.specs.declared.Cursor.{Cursor}
+use Rattle.cursor.specs.declared.Number.{Number}
+use Rattle.cursor.specs.declared.Number
 use Rattle.hex.specs.Hex.{hexToRgb8}
-use Rattle.cursor.proofs.Chaining.{chain-first}
+use Rattle.cursor.proofs.Chaining.{known, chain-first}
 
 -- ---- digits
 
@@ -237,14 +240,15 @@ number-small text {v} {rest} e =
     let q : _≡_ {A = ℕ} 0 1 = cc in
     absurd (omega arith))
 
-pub line-small : (key text : List ℕ) {v : ℕ} {rest : List ℕ} → numberLine key text ≡ got v rest → v < 10 ^ 9
-unfolding numberLine line _>>=_ _>>_ give chain
-line-small key text {v} {rest} e =
-    let a = chain-first (bytes key text) (λ _. number >>= λ x. bytes newline >> give x) e in
+-- the same of a line, by the answer to it
+pub line-small : (text key from : List ℕ) {r : Number} {n : ℕ} {next : Cursor} → numbered text r ≡ numberLine key from → r ≡ Number.the-variants.Value n next → n < 10 ^ 9
+unfolding numbered numberLine line _>>=_ _>>_ give chain
+line-small text key from {r} {n} {next} e q =
+    let a = chain-first (bytes key from) (λ _. number >>= λ x. bytes newline >> give x) (known (numbered text) e q) in
     let b = chain-first (number (a .rest)) (λ x. bytes newline >> give x) (a .then) in
     let d = chain-first (bytes newline (b .rest)) (λ _. give (b .value)) (b .then) in
-    let p : got (b .value) (d .rest) ≡ got v rest = d .then in
-    let q : b .value ≡ v = cc in
+    let p : got (b .value) (d .rest) ≡ got n (drop (next .at) text) = d .then in
+    let v : b .value ≡ n = cc in
     omega (arith, number-small (a .rest) (b .read))
 
 -- ---- a minus
