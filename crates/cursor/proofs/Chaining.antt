@@ -3,8 +3,8 @@ use Prim.Native.Nat.{ℕ}
 use mathlib.Core.Path.{_≡_, refl, sym, ap, _∙_}
 use mathlib.Core.List.{List}
 use native.Mathlib.Omega.{arith}
-use Rattle.cursor.specs.Reader.{Got, got, refused, Reader, chain, _>>=_, _>>_, give, bytes, newline, line, numberLine, switchLine}
-use Rattle.cursor.specs.Answers.{numbered, switched, sized, passed, wished, opted}
+use Rattle.cursor.specs.Reader.{Got, got, refused, Reader, chain, _>>=_, _>>_, give, bytes, newline, number, line, numberLine, switchLine}
+use Rattle.cursor.specs.Answers.{stepped, numbered, switched, sized, passed, wished, opted}
 use Rattle.cursor.specs.Lines.{sizes, passes, outlineLine, options}
 
 -- an answer that means g, and is s, gives what s means
@@ -19,6 +19,15 @@ Onward {R} {A} m p = (B : Type 0) (text from : List ℕ) (f : A → Reader B) (r
 
 onward : {R A : Type 0} (m : List ℕ → R → Got A) (p : Reader A) → Onward m p
 onward m p B text from f r s w e q h = rw (known (m text) e q) h
+
+-- one more piece of a line
+pub bytes-next : (key : List ℕ) → Onward stepped (bytes key)
+bytes-next key = onward stepped (bytes key)
+
+pub digits-next : Onward numbered number
+digits-next = onward numbered number
+
+pub ruleset pieces = (bytes-next, digits-next)
 
 -- one more line
 pub number-next : (key : List ℕ) → Onward numbered (numberLine key)
