@@ -9,7 +9,7 @@ use Rattle.cursor.proofs.Signs.{pos-fits, back}
 use Rattle.cursor.proofs.Cursor.options.Statement.{statement}
 use Rattle.cursor.proofs.Cursor.options.Tie as tie
 
--- where the first line is read, seen from past the fourth: `search` does not look that far back by itself
+-- where the first line was read, seen from past the fourth: further back than `search` looks by itself
 abbrev first : tie.After-known-told4 → tie.After-darken
 first c = c .before .before .before .before .before .before .before .before .before .before .before .before .before .before .before .before
 
@@ -25,4 +25,5 @@ options-spec =
     (search needs) (search needs) (search needs) (search needs)
     (λ c. search (lines, first (c .before .before .before .before) .before .before .number-line .ensures, first (c .before .before .before .before) .darken .given .1) depth 6)
     (λ c κs. search line-small)
-    (λ c. rw (back (pos-fits _ (search line-small)) (c .signed .ensures)) (search (lines, first (c .before .before .before .before .before .before) .before .before .number-line .ensures, first (c .before .before .before .before .before .before) .darken .given .1) depth 6)))
+    (λ c. rw (back (pos-fits _ (search line-small)) (c .signed .ensures))
+    (search (lines, first (c .before .before .before .before .before .before) .before .before .number-line .ensures, first (c .before .before .before .before .before .before) .darken .given .1) depth 6)))

@@ -11,7 +11,7 @@ use lib.Ieee.{ofInt}
 use Rattle.cursor.proofs.Cursor.passes.Statement.{statement}
 use Rattle.cursor.proofs.Cursor.passes.Tie as tie
 
--- where the first line is read, seen from past the fourth: `search` does not look that far back by itself
+-- where the first line was read, seen from past the fourth: further back than `search` looks by itself
 abbrev first : tie.After-known-told4 → tie.After-beta
 first c = c .before .before .before .before .before .before .before .before .before .before .before .before .before .before .before .before
 
@@ -27,4 +27,5 @@ passes-spec =
     (search needs) (search needs) (search needs) (search needs)
     (λ c. search (lines, first (c .before .before .before .before) .before .before .number-line .ensures, first (c .before .before .before .before) .beta .given .1) depth 6)
     (search needs) (λ c κs. search line-small) (search needs)
-    (λ c. rw (c .before .before .hundredths .ensures, back (pos-fits _ (search line-small)) (c .before .signed .ensures)) (search (lines, first (c .before .before .before .before .before .before .before .before) .before .before .number-line .ensures, first (c .before .before .before .before .before .before .before .before) .beta .given .1) depth 6)))
+    (λ c. rw (c .before .before .hundredths .ensures, back (pos-fits _ (search line-small)) (c .before .signed .ensures))
+    (search (lines, first (c .before .before .before .before .before .before .before .before) .before .before .number-line .ensures, first (c .before .before .before .before .before .before .before .before) .beta .given .1) depth 6)))
