@@ -1,13 +1,15 @@
 //! Times of the port and of the Rust original, in one process, on the same sheets.
 
 use crate::call::{self, name, real, signed, Arg, Call, Entry, Lent};
-use crate::cases::{colours, lent_palette, Rng};
+use crate::cases::{colours, lent_palette, winding, Rng};
 use pixelforge::{color, mask, postprocess};
 use std::cell::RefCell;
 use std::hint::black_box;
 use std::time::{Duration, Instant};
 
-const SHEETS: [&str; 5] = ["silks", "noise", "checkerboard", "single cells", "snake"];
+const SHEETS: [&str; 7] =
+    ["silks", "noise", "noise of 256", "checkerboard", "single cells", "snake", "chain"];
+const SIDES: [usize; 4] = [64, 128, 256, 512];
 const ON_SHEETS: [Entry; 7] = [
     Entry::LabelRegions,
     Entry::Label4,
@@ -21,8 +23,12 @@ const ON_SHEETS: [Entry; 7] = [
 const LARGEST: usize = 512;
 /// How many short calls make a round.
 const MANY: usize = 64;
+/// A round that takes longer is not made again.
+const LONG: Duration = Duration::from_secs(2);
 const REGION: i32 = 3;
 const DELTA: f64 = 25.0;
+const PASSES: usize = 5;
+const MOST_PASSES: usize = 65_535;
 
 /// A figure in a tile of 16 x 16: cap, jacket with sleeves, specks.
 fn silk_cell(rng: &mut Rng, y: usize, x: usize, tile: usize) -> i32 {
@@ -42,8 +48,31 @@ fn silk_cell(rng: &mut Rng, y: usize, x: usize, tile: usize) -> i32 {
     }
 }
 
+/// A large region, then single cells along one way, of which every pass repaints the next.
+fn chain(side: usize) -> Vec<i32> {
+    let mut cells = vec![-1; side * side];
+    for (i, p) in winding(side, side).into_iter().enumerate() {
+        cells[p] = if i < REGION as usize { 0 } else { 1 + (i % 2) as i32 };
+    }
+    cells
+}
+
+/// The palette of a kind's sheets: eight colours, near enough to one another that most specks go, or
+/// 256, of which more than a third of all pairs are too far apart.
+fn palette(kind: &str) -> Vec<f64> {
+    if kind != "noise of 256" {
+        return (0..8).flat_map(|i| [20.0 + 5.0 * f64::from(i), f64::from(i * 3 % 8), 2.0]).collect();
+    }
+    let rng = &mut Rng(256);
+    let colour = |_| [rng.between(20.0, 60.0), rng.between(-15.0, 15.0), rng.between(-15.0, 15.0)];
+    (0..256).flat_map(colour).collect()
+}
+
 /// The sheet `number` of a kind: sheets with chance in them differ from one another.
 fn sheet(kind: &str, side: usize, number: usize) -> Vec<i32> {
+    if kind == "chain" {
+        return chain(side);
+    }
     let rng = &mut Rng((side + 1024 * number) as u64);
     let tiles = side / 16;
     let cell = |p: usize| {
@@ -51,6 +80,7 @@ fn sheet(kind: &str, side: usize, number: usize) -> Vec<i32> {
         match kind {
             "silks" => silk_cell(rng, y, x, (y / 16) * tiles + x / 16),
             "noise" => rng.below(9) as i32 - 1,
+            "noise of 256" => rng.below(256) as i32,
             "checkerboard" => ((y + x) % 2) as i32,
             "single cells" => ((y % 2) * 2 + x % 2) as i32,
             // rows joined at alternating ends
@@ -60,10 +90,16 @@ fn sheet(kind: &str, side: usize, number: usize) -> Vec<i32> {
     (0..side * side).map(cell).collect()
 }
 
+/// The sheets of a round.
+fn round(kind: &str, side: usize) -> Vec<Vec<i32>> {
+    let count = (LARGEST / side) * (LARGEST / side);
+    (0..count).map(|i| sheet(kind, side, i)).collect()
+}
+
 /// The least time of one round: `before` is not timed.
 fn least(mut before: impl FnMut(), mut timed: impl FnMut()) -> Duration {
     let (start, mut best, mut rounds) = (Instant::now(), Duration::MAX, 0);
-    while rounds < 5 || start.elapsed() < Duration::from_millis(80) {
+    while rounds == 0 || best < LONG && (rounds < 5 || start.elapsed() < Duration::from_millis(80)) {
         before();
         let one = Instant::now();
         timed();
@@ -135,23 +171,28 @@ fn port_time(calls: &[Call]) -> Duration {
     time
 }
 
-fn show(entry: Entry, what: &str, count: usize, port: Duration, rust: Duration) {
+/// Whether a line is to be printed: its label, the entry and what it is timed on, has every word.
+fn asked(words: &[&str], entry: Entry, what: &str) -> bool {
+    let label = format!("{} {what}", name(entry));
+    words.iter().all(|word| label.contains(word))
+}
+
+/// One line; a dash where the Rust is not timed.
+fn show(entry: Entry, what: &str, count: usize, port: Duration, rust: Option<Duration>) {
     let each = |t: Duration| t.as_nanos() as f64 / count as f64;
-    println!(
-        "{:24} {what:22} {:9.2} {:9.2} {:6.2}",
-        name(entry),
-        each(port),
-        each(rust),
-        each(port) / each(rust)
-    );
+    let (name, port) = (name(entry), each(port));
+    match rust.map(each) {
+        Some(rust) => println!("{name:24} {what:24} {port:9.2} {rust:9.2} {:6.2}", port / rust),
+        None => println!("{name:24} {what:24} {port:9.2} {:>9} {:>6}", "-", "-"),
+    }
 }
 
 fn num(n: usize) -> Arg {
     Arg::Num(n as u64)
 }
 
-/// The port's call of an entry on one sheet.
-fn sheet_call(entry: Entry, cells: &[i32], side: usize, palette: &[f64]) -> Call {
+/// The port's call of an entry on one sheet; only `remove_orphans` takes `passes`.
+fn sheet_call(entry: Entry, cells: &[i32], side: usize, palette: &[f64], passes: usize) -> Call {
     let n = side * side;
     let needed = (side + 2) * (side + 2);
     let lent = |len: usize| {
@@ -170,7 +211,7 @@ fn sheet_call(entry: Entry, cells: &[i32], side: usize, palette: &[f64]) -> Call
         Entry::Label4 => vec![vec![set()], dims, vec![words(n), work(n), words(1)]],
         Entry::BinaryDilation8 => vec![vec![set()], dims, vec![num(3), Arg::Bytes(vec![0; n]), work(n)]],
         Entry::RemoveOrphans => {
-            let limits = vec![signed(REGION), num(5), real(DELTA), work(n), words(1)];
+            let limits = vec![signed(REGION), num(passes), real(DELTA), work(n), words(1)];
             vec![vec![lent(n)], dims, colours(), limits]
         }
         Entry::FixJaggies => vec![vec![lent(n)], dims, vec![work(n)]],
@@ -193,6 +234,7 @@ fn rust_call(
     set: &[bool],
     side: usize,
     palette: &[f64],
+    passes: usize,
     config: &postprocess::PostConfig,
 ) {
     let region = i64::from(REGION);
@@ -207,7 +249,7 @@ fn rust_call(
             black_box(mask::binary_dilation8(set, side, side, 3));
         }
         Entry::RemoveOrphans => {
-            black_box(postprocess::remove_orphans(wide, side, side, palette, region, 5, DELTA));
+            black_box(postprocess::remove_orphans(wide, side, side, palette, region, passes, DELTA));
         }
         Entry::FixJaggies => {
             black_box(postprocess::fix_jaggies(wide, side, side));
@@ -222,7 +264,7 @@ fn rust_call(
 }
 
 /// The Rust's time for a round of calls, one for each sheet.
-fn rust_time(entry: Entry, sheets: &[Vec<i32>], side: usize, palette: &[f64]) -> Duration {
+fn rust_time(entry: Entry, sheets: &[Vec<i32>], side: usize, palette: &[f64], passes: usize) -> Duration {
     let config = postprocess::PostConfig {
         saturation_beta: 1.1,
         remove_orphans: true,
@@ -240,13 +282,13 @@ fn rust_time(entry: Entry, sheets: &[Vec<i32>], side: usize, palette: &[f64]) ->
         || (),
         || {
             for (wide, set) in &both {
-                rust_call(entry, wide, set, side, palette, &config);
+                rust_call(entry, wide, set, side, palette, passes, &config);
             }
         },
     )
 }
 
-fn colour_times() {
+fn colour_times(words: &[&str]) {
     let rng = &mut Rng(9);
     let n = 65_536;
     let rgb: Vec<u8> = (0..3 * n).map(|_| rng.next() as u8).collect();
@@ -256,7 +298,9 @@ fn colour_times() {
     let palette = colours(rng, 256);
     let pixels = lab[..3 * 4096].to_vec();
     let time = |entry, args: Vec<Arg>, count: usize, what: &str, rust: &dyn Fn()| {
-        show(entry, what, count, port_time(&[Call { entry, args }]), least(|| (), rust));
+        if asked(words, entry, what) {
+            show(entry, what, count, port_time(&[Call { entry, args }]), Some(least(|| (), rust)));
+        }
     };
     let reals = |len: usize| Arg::Reals(vec![0.0; len]);
     time(Entry::Rgb8ToLab, vec![Arg::Bytes(rgb.clone()), reals(3 * n)], n, "65536 colours", &|| {
@@ -298,8 +342,12 @@ fn colour_times() {
             black_box(color::palette_distance_matrix(&palette));
         },
     );
-    saturation_times(&palette);
-    hex_times();
+    if asked(words, Entry::ApplySaturation, "256 colours") {
+        saturation_times(&palette);
+    }
+    if asked(words, Entry::HexToRgb8, "one") {
+        hex_times();
+    }
 }
 
 /// `apply_saturation` on many palettes, since one takes little more than the clock does.
@@ -315,7 +363,7 @@ fn saturation_times(palette: &[f64]) {
         || palettes.borrow_mut().iter_mut().for_each(|p| p.copy_from_slice(palette)),
         || palettes.borrow_mut().iter_mut().for_each(|p| postprocess::apply_saturation(black_box(p), 0.9)),
     );
-    show(Entry::ApplySaturation, "256 colours", 256 * MANY, port_time(&calls), rust);
+    show(Entry::ApplySaturation, "256 colours", 256 * MANY, port_time(&calls), Some(rust));
 }
 
 /// `hex_to_rgb8`, as often.
@@ -334,24 +382,52 @@ fn hex_times() {
             }
         },
     );
-    show(Entry::HexToRgb8, "one", MANY, port_time(&calls), rust);
+    show(Entry::HexToRgb8, "one", MANY, port_time(&calls), Some(rust));
 }
 
-pub fn all() {
-    println!("{:24} {:22} {:>9} {:>9} {:>6}", "ns a cell (or colour)", "", "port", "Rust", "ratio");
-    colour_times();
-    // Eight colours, near enough to one another that most specks go.
-    let palette: Vec<f64> =
-        (0..8).flat_map(|i| [20.0 + 5.0 * f64::from(i), f64::from(i * 3 % 8), 2.0]).collect();
-    for side in [64, 128, 256, 512] {
-        let count = (LARGEST / side) * (LARGEST / side);
-        for kind in SHEETS {
-            let sheets: Vec<Vec<i32>> = (0..count).map(|i| sheet(kind, side, i)).collect();
-            for entry in ON_SHEETS {
-                let calls: Vec<Call> = sheets.iter().map(|c| sheet_call(entry, c, side, &palette)).collect();
-                let rust = rust_time(entry, &sheets, side, &palette);
-                show(entry, &format!("{kind} {side}"), LARGEST * LARGEST, port_time(&calls), rust);
-            }
+/// Every entry on the sheets of one kind and side.
+fn sheet_times(words: &[&str], kind: &str, side: usize) {
+    let what = format!("{kind} {side}");
+    let entries: Vec<Entry> = ON_SHEETS.into_iter().filter(|&e| asked(words, e, &what)).collect();
+    if entries.is_empty() {
+        return;
+    }
+    let (sheets, palette) = (round(kind, side), palette(kind));
+    for entry in entries {
+        let call = |c: &Vec<i32>| sheet_call(entry, c, side, &palette, PASSES);
+        let calls: Vec<Call> = sheets.iter().map(call).collect();
+        let rust = rust_time(entry, &sheets, side, &palette, PASSES);
+        show(entry, &what, LARGEST * LARGEST, port_time(&calls), Some(rust));
+    }
+}
+
+/// `remove_orphans` on the chain, cut off after so many passes; the Rust not after the most, since it
+/// keeps the sheet after every pass (137 GB at 512).
+fn chain_times(words: &[&str], side: usize) {
+    let (entry, palette) = (Entry::RemoveOrphans, palette("chain"));
+    for passes in [PASSES, 64, MOST_PASSES] {
+        let what = format!("chain {side}, {passes} passes");
+        if !asked(words, entry, &what) {
+            continue;
         }
+        let sheets = round("chain", side);
+        let call = |c: &Vec<i32>| sheet_call(entry, c, side, &palette, passes);
+        let calls: Vec<Call> = sheets.iter().map(call).collect();
+        let rust = (passes < MOST_PASSES).then(|| rust_time(entry, &sheets, side, &palette, passes));
+        show(entry, &what, LARGEST * LARGEST, port_time(&calls), rust);
+    }
+}
+
+/// The lines whose labels have all of the words.
+pub fn all(words: &[&str]) {
+    println!("{:24} {:24} {:>9} {:>9} {:>6}", "ns a cell (or colour)", "", "port", "Rust", "ratio");
+    colour_times(words);
+    for side in SIDES {
+        for kind in SHEETS {
+            sheet_times(words, kind, side);
+        }
+    }
+    for side in SIDES {
+        chain_times(words, side);
     }
 }

@@ -1,7 +1,7 @@
 //! Calls to make: random ones around the limits, and damaged ones for every refusal.
 
 use crate::call::{real, signed, Arg, Call, Entry};
-use pixelforge::color;
+use pixelforge::{color, postprocess};
 
 /// A small random generator (splitmix64): the same seed gives the same calls.
 pub struct Rng(pub u64);
@@ -452,31 +452,7 @@ pub fn random_sized(rng: &mut Rng, entry: Entry, h: usize, w: usize) -> Call {
                 orphans = true;
                 (limit, delta, cells, palette) = lively(rng, h, w);
             }
-            let needed = if rng.once_in(20) { n } else { padded_len(h, w) };
-            let mut args = vec![
-                lent_cells(cells, slack(rng, needed)),
-                num(h),
-                num(w),
-                Arg::Reals(lent_palette(&palette)),
-                num(palette.len() / 3),
-                real(factor(rng)),
-                num(usize::from(orphans)),
-                signed(limit),
-                real(delta),
-                flag(rng),
-            ];
-            args.extend(outline_args(rng, &[0, 1, 1, 2], &palette));
-            let margin = rng.pick(&[0, 0, 0, 1, -1, i32::MAX, i32::MIN]);
-            let tileset = Arg::Num(u64::from(rng.once_in(4)));
-            args.extend([
-                tileset,
-                flag(rng),
-                flag(rng),
-                signed(margin),
-                work(slack(rng, 8 * needed)),
-                words(slack(rng, 7)),
-            ]);
-            args
+            return random_run(rng, &Sheet { h, w, cells, palette, limit, delta }, orphans);
         }
         Entry::Rgb8ToLab => {
             let m = rng.below(4);
@@ -516,6 +492,36 @@ pub fn random_sized(rng: &mut Rng, entry: Entry, h: usize, w: usize) -> Call {
     Call { entry, args }
 }
 
+/// A random call of `run` on a sheet.
+pub fn random_run(rng: &mut Rng, sheet: &Sheet, orphans: bool) -> Call {
+    let (h, w, palette) = (sheet.h, sheet.w, &sheet.palette);
+    let needed = if rng.once_in(20) { h * w } else { padded_len(h, w) };
+    let mut args = vec![
+        lent_cells(sheet.cells.clone(), slack(rng, needed)),
+        num(h),
+        num(w),
+        Arg::Reals(lent_palette(palette)),
+        num(palette.len() / 3),
+        real(factor(rng)),
+        num(usize::from(orphans)),
+        signed(sheet.limit),
+        real(sheet.delta),
+        flag(rng),
+    ];
+    args.extend(outline_args(rng, &[0, 1, 1, 2], palette));
+    let margin = rng.pick(&[0, 0, 0, 1, -1, i32::MAX, i32::MIN]);
+    let tileset = Arg::Num(u64::from(rng.once_in(4)));
+    args.extend([
+        tileset,
+        flag(rng),
+        flag(rng),
+        signed(margin),
+        work(slack(rng, 8 * needed)),
+        words(slack(rng, 7)),
+    ]);
+    Call { entry: Entry::Run, args }
+}
+
 pub fn random(rng: &mut Rng, entry: Entry) -> Call {
     let (mut h, mut w) = (side(rng), side(rng));
     if matches!(entry, Entry::FixJaggies | Entry::Run | Entry::RemoveOrphans) && rng.once_in(2) {
@@ -544,6 +550,222 @@ fn hex_text(rng: &mut Rng) -> Vec<u8> {
         text[at] = rng.pick(b"\x00\x08\x0e\x1c\x1f #/:@G`g~\x7f\x80\x85\xa0\xc2\xff");
     }
     text
+}
+
+// ---------------------------------------------------------------------------------- many passes
+
+/// A sheet, its palette and the limits of its cleaning.
+pub struct Sheet {
+    pub h: usize,
+    pub w: usize,
+    pub cells: Vec<i32>,
+    pub palette: Vec<f64>,
+    pub limit: i32,
+    pub delta: f64,
+}
+
+impl Sheet {
+    pub fn cleaned_by(&self, passes: u64) -> Call {
+        orphans_call(&self.cells, self.h, self.w, &self.palette, self.limit, passes, self.delta)
+    }
+
+    /// The number of passes that repaint, by the judge.
+    pub fn passes(&self) -> u64 {
+        let mut call = self.cleaned_by(65_535);
+        assert_eq!(call.judged(), 0);
+        call.args[call.args.len() - 1].numbers()[0]
+    }
+}
+
+/// The neighbours of a cell.
+fn around(p: usize, h: usize, w: usize) -> impl Iterator<Item = usize> {
+    let (y, x) = (p / w, p % w);
+    let (rows, columns) = (y.saturating_sub(1)..h.min(y + 2), x.saturating_sub(1)..w.min(x + 2));
+    rows.flat_map(move |v| columns.clone().map(move |u| v * w + u)).filter(move |&q| q != p)
+}
+
+/// A way along every other row, to and fro: no cell has other neighbours on it than the one before
+/// and the one after. On narrow sheets one column.
+pub fn winding(h: usize, w: usize) -> Vec<usize> {
+    if w < 4 {
+        return (0..h).map(|y| y * w).collect();
+    }
+    let mut way = vec![0];
+    for y in 0..h {
+        let row = y * w + 1..y * w + w - 1;
+        match y % 4 {
+            0 => way.extend(row),
+            1 => way.push(y * w + w - 1),
+            2 => way.extend(row.rev()),
+            _ => way.push(y * w),
+        }
+    }
+    way
+}
+
+/// A way like that from any cell on, each step by chance, until none is left.
+fn walk(rng: &mut Rng, h: usize, w: usize) -> Vec<usize> {
+    let (mut last, mut way) = (rng.below(h * w), vec![]);
+    loop {
+        way.push(last);
+        let free = |q: &usize| !way.contains(q) && around(*q, h, w).all(|r| r == last || !way.contains(&r));
+        let next: Vec<usize> = around(last, h, w).filter(free).collect();
+        if next.is_empty() {
+            return way;
+        }
+        last = rng.pick(&next);
+    }
+}
+
+/// Either of these, from any end, along rows or columns.
+fn random_way(rng: &mut Rng, h: usize, w: usize) -> Vec<usize> {
+    let mut way = match rng.below(5) {
+        0 => winding(h, w),
+        1 => winding(w, h).into_iter().map(|p| p % h * w + p / h).collect(),
+        _ => {
+            let (one, other) = (walk(rng, h, w), walk(rng, h, w));
+            if one.len() < other.len() {
+                other
+            } else {
+                one
+            }
+        }
+    };
+    if rng.once_in(2) {
+        way.reverse();
+    }
+    if rng.once_in(2) {
+        way.iter_mut().for_each(|p| *p = h * w - 1 - *p);
+    }
+    way
+}
+
+/// An index below k, neither beside the cell nor `not` if there is one.
+fn unlike(rng: &mut Rng, sheet: &Sheet, p: usize, k: usize, not: i32) -> i32 {
+    let beside: Vec<i32> = around(p, sheet.h, sheet.w).map(|q| sheet.cells[q]).collect();
+    let free: Vec<i32> = (0..k as i32).filter(|c| *c != not && !beside.contains(c)).collect();
+    if free.is_empty() {
+        rng.below(k) as i32
+    } else {
+        rng.pick(&free)
+    }
+}
+
+/// Single cells along a way that begins with a large region and now and then ends with one; some ways
+/// have branches or a gap.
+fn chain(rng: &mut Rng, h: usize, w: usize) -> Sheet {
+    let k = 3 + rng.below(4);
+    let way = random_way(rng, h, w);
+    let large = 2 + rng.below((way.len() / 4).clamp(1, 11));
+    let (palette, delta) = (near_colours(rng, k), rng.pick(&[12.0, 25.0, 25.0, 25.0]));
+    let mut sheet = Sheet { h, w, cells: vec![-1; h * w], palette, limit: large as i32, delta };
+    let seed = rng.below(k) as i32;
+    let not = if rng.once_in(4) { -1 } else { seed };
+    for (i, &p) in way.iter().enumerate() {
+        sheet.cells[p] = if i < large { seed } else { unlike(rng, &sheet, p, k, not) };
+    }
+    if rng.once_in(4) {
+        let other = rng.below(k) as i32;
+        way.iter().rev().take(large).for_each(|&p| sheet.cells[p] = other);
+    }
+    for _ in 0..rng.pick(&[0, 0, 1, 3]) {
+        branch(rng, &mut sheet, &way, k);
+    }
+    if rng.once_in(4) {
+        sheet.cells[rng.pick(&way)] = -1;
+    }
+    sheet
+}
+
+/// Up to four more cells, from one of the way on, where the sheet is transparent.
+fn branch(rng: &mut Rng, sheet: &mut Sheet, way: &[usize], k: usize) {
+    let mut p = rng.pick(way);
+    for _ in 0..1 + rng.below(4) {
+        let next: Vec<usize> = around(p, sheet.h, sheet.w).filter(|&q| sheet.cells[q] < 0).collect();
+        if next.is_empty() {
+            return;
+        }
+        p = rng.pick(&next);
+        sheet.cells[p] = unlike(rng, sheet, p, k, -1);
+    }
+}
+
+/// Noise of which every region is small, and one or two that are just large enough.
+fn seeded(rng: &mut Rng, h: usize, w: usize) -> Sheet {
+    let (n, k) = (h * w, 3 + rng.below(7));
+    let least = if k < 5 { 6 } else { 2 };
+    let limit = least + rng.below(13 - least);
+    // a distance of the palette is the colour limit: what lies so far or farther is frozen
+    let mut palette = near_colours(rng, k);
+    let distances = color::palette_distance_matrix(&palette);
+    let far = rng.pick(&distances).max(rng.pick(&distances));
+    let mut delta = rng.pick(&[far, far + 1.0, 25.0]);
+    let mut seeds: Vec<(usize, usize)> = vec![(rng.below(n), rng.below(k)), (0, rng.below(k))];
+    if rng.once_in(2) {
+        // the first and the last colour of a line, from either end: one takes what the other froze
+        palette = (0..k).flat_map(|i| [6.0 * i as f64, 0.0, 0.0]).collect();
+        delta = 6.0 * k.div_ceil(2) as f64;
+        seeds = vec![(0, 0), (n - 1, k - 1)];
+    } else if rng.once_in(2) {
+        seeds.remove(0);
+    }
+    let share = rng.pick(&[8, n, n]);
+    let cell = |_| if rng.once_in(share) { -1 } else { rng.below(k) as i32 };
+    let cells = (0..n).map(cell).collect();
+    let mut sheet = Sheet { h, w, cells, palette, limit: limit as i32, delta };
+    for _ in 0..20 {
+        break_large(rng, &mut sheet, k);
+    }
+    for (p, index) in seeds {
+        plant(rng, &mut sheet, p, limit, index as i32);
+    }
+    sheet
+}
+
+/// Other indices for some cells of the large regions.
+fn break_large(rng: &mut Rng, sheet: &mut Sheet, k: usize) {
+    let wide: Vec<i64> = sheet.cells.iter().map(|&c| i64::from(c)).collect();
+    let (labels, n) = postprocess::label_regions(&wide, sheet.h, sheet.w);
+    let mut sizes = vec![0; n + 1];
+    labels.iter().for_each(|&l| sizes[l] += 1);
+    for p in 0..labels.len() {
+        if labels[p] > 0 && sizes[labels[p]] >= sheet.limit && rng.once_in(3) {
+            sheet.cells[p] = unlike(rng, sheet, p, k, -1);
+        }
+    }
+}
+
+/// A region of `size` cells, one of them p.
+fn plant(rng: &mut Rng, sheet: &mut Sheet, p: usize, size: usize, index: i32) {
+    let mut seed = vec![p];
+    while seed.len() < size.min(sheet.cells.len()) {
+        let from = rng.pick(&seed);
+        let next: Vec<usize> = around(from, sheet.h, sheet.w).filter(|q| !seed.contains(q)).collect();
+        if !next.is_empty() {
+            seed.push(rng.pick(&next));
+        }
+    }
+    seed.iter().for_each(|&p| sheet.cells[p] = index);
+}
+
+/// A sheet whose cleaning takes many passes; every 20th is larger.
+pub fn lasting(rng: &mut Rng, number: usize) -> Sheet {
+    let (mut h, mut w) = match rng.below(4) {
+        0 => (1, 8 + rng.below(41)),
+        1 => (2 + rng.below(2), 8 + rng.below(33)),
+        _ => (5 + rng.below(9), 5 + rng.below(9)),
+    };
+    if rng.once_in(2) {
+        (h, w) = (w, h);
+    }
+    if number % 20 == 0 {
+        (h, w) = (24, 24);
+    }
+    if rng.once_in(2) {
+        chain(rng, h, w)
+    } else {
+        seeded(rng, h, w)
+    }
 }
 
 // ---------------------------------------------------------------------------------- named calls

@@ -1,7 +1,9 @@
 //! Every comparison of the port with the judge.
 
 use crate::call::{name, real, signed, Arg, Call, Entry, ENTRIES};
-use crate::cases::{self, lent_palette, random, random_sized, Rng, SPARE_BYTE, SPARE_CELL, SPARE_WORD};
+use crate::cases::{
+    self, lent_palette, random, random_sized, Rng, Sheet, SPARE_BYTE, SPARE_CELL, SPARE_WORD,
+};
 use crate::lend::{Lender, Side};
 use crate::vectors::line;
 use std::sync::atomic::{AtomicUsize, Ordering};
@@ -352,6 +354,23 @@ fn random_calls(tally: &mut Tally, count: usize) {
     }
 }
 
+/// Sheets that take many passes: `remove_orphans` cut off after every number of passes, and `run`.
+fn many_passes(tally: &mut Tally, count: usize) {
+    let rng = &mut Rng(3000);
+    let sheets: Vec<Sheet> = (0..(count / 20).max(10)).map(|i| cases::lasting(rng, i)).collect();
+    for sheet in &sheets {
+        for passes in 0..=(sheet.passes() + 2).min(40) {
+            tally.compare(&sheet.cleaned_by(passes));
+        }
+        tally.compare(&sheet.cleaned_by(65_535));
+    }
+    tally.report("remove_orphans, many passes");
+    for sheet in &sheets {
+        tally.compare(&cases::random_run(rng, sheet, true));
+    }
+    tally.report("run, many passes");
+}
+
 /// Every damage alone, which has to be refused by its row, and all pairs of them.
 fn damaged(tally: &mut Tally) {
     for (entry, name) in ENTRIES {
@@ -390,6 +409,7 @@ pub fn all(count: usize) -> usize {
     let tally = &mut Tally::new();
     damaged(tally);
     random_calls(tally, count);
+    many_passes(tally, count);
     corners(tally);
     small_grids(tally);
     three_by_three(tally);

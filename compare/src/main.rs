@@ -1,7 +1,8 @@
 //! The port beside the Rust original.
 //!
 //!     compare check [COUNT]          every comparison; COUNT random calls of each entry
-//!     compare bench                  times of the port and of the Rust, in one process
+//!     compare bench [WORD]..         times of the port and of the Rust, in one process; only the lines
+//!                                    whose label (such as `remove_orphans silks 512`) has every WORD
 //!     compare differences            what the Rust does where the specification refuses
 //!     compare vectors CRATES         writes the stored answers, each over its file below CRATES
 //!     compare cases ENTRY COUNT SEED [SIDE]
@@ -29,7 +30,7 @@ fn main() {
     match words.as_slice() {
         ["check"] => std::process::exit(check::all(20_000).min(1) as i32),
         ["check", count] => std::process::exit(check::all(number(count) as usize).min(1) as i32),
-        ["bench"] => bench::all(),
+        ["bench", words @ ..] => bench::all(words),
         ["differences"] => differences::all(),
         ["vectors", crates] => vectors::write_all(crates),
         ["cases", entry, count, seed, side @ ..] => {
@@ -39,7 +40,7 @@ fn main() {
         }
         _ => {
             eprintln!(
-                "usage: compare check [COUNT] | bench | differences | vectors CRATES | cases ENTRY COUNT SEED [SIDE]"
+                "usage: compare check [COUNT] | bench [WORD].. | differences | vectors CRATES | cases ENTRY COUNT SEED [SIDE]"
             );
             std::process::exit(2);
         }
