@@ -9,6 +9,7 @@ use native.Mathlib.Decide.{ℕ-discrete}
 use native.Mathlib.Omega.{arith}
 use lib.Dec.{T, leb, eqb, leb→le, le→leb, eqb→eq, eqb-refl, nleb→lt}
 use lib.ListN.{length, getD}
+use lib.Seq.{ext-getD}
 use Rattle.base.specs.Places.{tableFrom, table, any, count, least, greatest}
 
 -- ---- tests
@@ -102,6 +103,11 @@ module _ {A : Type 0} where
   unfolding table
   table-length n f = from-length n 0 f
 
+  pub table-same : (n : ℕ) (f g : ℕ → A) → A → ((p : ℕ) → p < n → f p ≡ g p) → table n f ≡ table n g
+  table-same n f g d e =
+      ext-getD d (table n f) (table n g) (table-length n f ∙ sym (table-length n g))
+      (λ p h. let l : p < n = omega (arith, table-length n f) in table-at n f d p l ∙ e p l ∙ sym (table-at n g d p l))
+
 -- within a list the value for places past its end does not matter: code reads with another one than `at`
 pub getD-within : {A : Type 0} (l : List A) (p : ℕ) (d e : A) → p < length l → getD l p d ≡ getD l p e
 getD-within [] p d e h = absurd (not-suc-le-zero h)
@@ -138,6 +144,11 @@ any-same (suc n) t u f = rw (f n (lt-suc-self n), any-same n t u (λ p h. f p (l
 bit-le : {a b : Bool} → (a ≡ true → b ≡ true) → cond a 1 0 ≤ cond b 1 0
 bit-le {a = true} {b} f = rw (f refl) (le-refl 1)
 bit-le {a = false} {b} f = zero-le
+
+pub count-none : (n : ℕ) → count n (λ p. false) ≡ 0
+unfolding count
+count-none zero = refl
+count-none (suc n) = omega (arith, count-none n)
 
 pub count-le : (n : ℕ) (t : ℕ → Bool) → count n t ≤ n
 unfolding count

@@ -1,7 +1,7 @@
 -- What a store in one plane of the work area leaves, and what plane 0 says of a sheet. Assumes nothing.
-use Prim.Native.Nat.{ℕ, zero, suc, _+_, _*_, _<_}
+use Prim.Native.Nat.{ℕ, zero, suc, _+_, _-_, _*_, _<_}
 use mathlib.Core.Path.{_≡_, refl, sym, ap, ap₂, fun-ext, _∙_}
-use mathlib.Core.Bool.{Bool, _&&_, cond}
+use mathlib.Core.Bool.{Bool, true, _&&_, cond}
 use mathlib.Core.List.{List}
 use native.Mathlib.Nat.{mul-le-mul-right, suc-mul}
 use native.Mathlib.Decide.{decLt}
@@ -14,8 +14,8 @@ use lib.Dec.{eqb, ltb}
 use lib.ListN.{length, getD, set, List·getD-eq-default}
 use lib.Seq.{getD-set-same, getD-set-other, ext-getD}
 use Rattle.base.specs.Places.{table, least, times, count}
-use Rattle.base.proofs.Counting.{table-at, table-length, same-test, eqb-yes, yes-eqb}
-use Rattle.rules.specs.Regions.{at, opaque, alike, link, held, spread, roots, root, inside, first, label}
+use Rattle.base.proofs.Counting.{clash, table-at, table-length, same-test, eqb-yes, yes-eqb}
+use Rattle.rules.specs.Regions.{at, opaque, index, alike, link, held, spread, roots, root, inside, first, label}
 use Rattle.rules.specs.Masks.{labelAt, regions}
 use Rattle.grid.specs.Planes.{plane, paintOf, cellOf, Painted, cellsOf, endOf, Labelled}
 
@@ -46,6 +46,16 @@ module _ (n j p i : ℕ) (work : List ℕ) (v : ℕ) (e : i ≡ j * n + p) where
   unfolding plane
   plane-other k q ne lp lq = getD-set-other work i (k * n + q) v 0 (λ z. apart n j k p q ne lp lq (sym e ∙ sym z))
 
+-- where the regions up to a label end
+pub end-none : (n l : ℕ) (a : List ℕ) → l ≡ 0 → 0 ≡ endOf n a l
+unfolding endOf
+end-none n l a e = rw e
+
+pub end-read : (n l : ℕ) (a : List ℕ) → (l ≡ 0 → ⊥) → getD a (3 * n + (l - 1)) 0 ≡ endOf n a l
+unfolding endOf plane
+end-read n zero a z = absurd (z refl)
+end-read n (suc k) a z = let e : suc k - 1 ≡ k = omega arith in rw e
+
 -- ---- paint
 
 pub paint-cell : (x : ℕ) → paintOf (cellOf x) ≡ x
@@ -65,6 +75,16 @@ module _ (n : ℕ) (work : List ℕ) where
 
   pub cells-paint : (p : ℕ) → p < n → paintOf (at (cellsOf n work) p) ≡ plane n 0 work p
   cells-paint p l = ap paintOf (cells-at p l) ∙ paint-cell (plane n 0 work p)
+
+-- what a paint says of an opaque cell
+paint-index : (v : ℕ) → nonNeg (cellOf v) ≡ true → v ≡ index (cellOf v) + 1
+unfolding cellOf index
+paint-index zero o = clash o refl
+paint-index (suc i) o = omega arith
+
+pub index-is : (n : ℕ) (a : List ℕ) (q : ℕ) → q < n → opaque (cellsOf n a) q ≡ true → plane n 0 a q ≡ index (at (cellsOf n a) q) + 1
+unfolding opaque
+index-is n a q l o = let e = cells-at n a q l in paint-index (plane n 0 a q) (rw e at o) ∙ ap (λ (z : ℤ). index z + 1) (sym e)
 
 -- while plane 0 is kept, so is its sheet
 pub cells-kept : (n : ℕ) (a b : List ℕ) → ((p : ℕ) → p < n → plane n 0 a p ≡ plane n 0 b p) → cellsOf n a ≡ cellsOf n b

@@ -74,7 +74,7 @@ pub fn neighbour(y: usize, x: usize, dy: i32, dx: i32, h: usize, w: usize) -> St
 }
 
 // Whether the place p lies on the border of the grid.
-fn on_border(p: usize, h: usize, w: usize) -> bool
+pub fn on_border(p: usize, h: usize, w: usize) -> bool
     requires { ⌜ (p < h * w) × (h ≤ 514) × (w ≤ 514) ⌝ }
     ensures { λ r. ⌜ (r ≡ false → Inner h w p) ⌝ }
 {
@@ -101,7 +101,7 @@ fn past(d: i32) -> usize
 }
 
 // The step of dy rows and dx columns from the place p: from within the border every step leads to a cell.
-fn reached(p: usize, dy: i32, dx: i32, border: bool, h: usize, w: usize) -> Step
+pub fn reached(p: usize, dy: i32, dx: i32, border: bool, h: usize, w: usize) -> Step
     requires { ⌜ (p < h * w) × (h ≤ 514) × (w ≤ 514) ⌝ }
     requires { ⌜ Single dy × Single dx × (border ≡ false → Inner h w p) ⌝ }
     ensures { λ r. ⌜ r ≡ stepOf (stepTo h w (p / w) (p % w) dy dx) ⌝ }

@@ -11,3 +11,5 @@ pub mod Freezing
 pub mod Promises
 pub mod Examples
 pub mod Labels
+pub mod Frontier
+pub mod Groups

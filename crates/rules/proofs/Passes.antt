@@ -230,7 +230,7 @@ module _ (rule : Rule) (symm : Symmetric (rule .adj)) (cells : List ℤ) (len : 
       (both (both (join-right a cells j) (yes-eqb (root-root n a cells len symm x o))) (join-small j h))
 
 -- a large region whose cells stay together stays large
-stays-large : (rule : Rule) (symm : Symmetric (rule .adj)) (cells cells′ : List ℤ) (len : length cells ≡ rule .places) (len′ : length cells′ ≡ rule .places) (p : ℕ) → ((q : ℕ) → Joined (rule .adj) cells p q → Joined (rule .adj) cells′ p q) → large rule cells p ≡ true → large rule cells′ p ≡ true
+pub stays-large : (rule : Rule) (symm : Symmetric (rule .adj)) (cells cells′ : List ℤ) (len : length cells ≡ rule .places) (len′ : length cells′ ≡ rule .places) (p : ℕ) → ((q : ℕ) → Joined (rule .adj) cells p q → Joined (rule .adj) cells′ p q) → large rule cells p ≡ true → large rule cells′ p ≡ true
 unfolding few size
 stays-large rule symm cells cells′ len len′ p f h =
     let o = large-opaque rule symm cells len p h in
@@ -468,7 +468,7 @@ module _ (rule : Rule) (symm : Symmetric (rule .adj)) (s : State) (len : length 
           (y, b, large-kept y b)
 
   -- a repainting pass leaves fewer small regions
-  first-was : (p : ℕ) → small rule cells′ p ≡ true → first cells′ (roots n (rule .adj) cells′) p ≡ true → first cells (roots n (rule .adj) cells) p ≡ true
+  pub first-was : (p : ℕ) → small rule cells′ p ≡ true → first cells′ (roots n (rule .adj) cells′) p ≡ true → first cells (roots n (rule .adj) cells) p ≡ true
   unfolding first inside root
   first-was p h f =
       let o = small-opaque rule symm cells len p (small-was p h) in
@@ -504,7 +504,7 @@ module _ (rule : Rule) (symm : Symmetric (rule .adj)) (s : State) (len : length 
   frozen-length = table-length n _
 
   -- a region that a pass may decide is small
-  pending-small : (m : ℕ) → pending rule (view rule s) m ≡ true → (first cells (roots n (rule .adj) cells) m ≡ true) × (small rule cells m ≡ true)
+  pub pending-small : (m : ℕ) → pending rule (view rule s) m ≡ true → (first cells (roots n (rule .adj) cells) m ≡ true) × (small rule cells m ≡ true)
   unfolding first inside view
   pending-small m e =
       let f = pending-first rule (view rule s) m e in
