@@ -14,7 +14,7 @@ use Rattle.grid.specs.Planes.{plane, cellOf, cellsOf}
 use Rattle.grid.specs.Filling.{Sized}
 use Rattle.verdicts.specs.Judging.{stateOf, Indexed}
 use Rattle.orphans.specs.Passing.{Wiped, Passed, CleanedTo}
-use Rattle.verdicts.proofs.Desks.{table-same}
+use Rattle.base.proofs.Counting.{table-same}
 
 -- ---- a sheet with no cell frozen
 

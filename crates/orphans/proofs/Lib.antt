@@ -1,7 +1,14 @@
-pub mod Painting
-pub mod Deciding
-pub mod Passes
+pub mod Wipes
+pub mod Regions
+pub mod LabelledSheets
 pub mod Cleaning
+pub mod AtStart
+pub mod AllJudged
+pub mod Applying
+pub mod Following
+pub mod Spreading
+pub mod OnePass
+pub mod Continuing
 pub mod Alike
 pub mod Storing
 pub mod Refusing

@@ -13,7 +13,7 @@ use lib.ListN.{length, take, drop, take-append-drop}
 use lib.Seq.{ext-getD, getD-take, length-take-le}
 use Rattle.base.specs.Places.{table}
 use Rattle.base.specs.Outputs.{filled}
-use Rattle.base.proofs.Counting.{case, clash, leb-yes, yes-leb, no-leb, table-at, table-length, any-no}
+use Rattle.base.proofs.Counting.{case, clash, leb-yes, yes-leb, no-leb, table-at, table-length, any-no, table-same}
 use Rattle.rules.specs.Regions.{at, opaque, Symmetric}
 use Rattle.rules.specs.Pass.{Rule, State, pass, repaints, moves, fates, fresh, Cleaned, clean}
 use Rattle.rules.specs.Palette.{paletteOf, colour}
@@ -33,7 +33,6 @@ use Rattle.verdicts.specs.Choice.{apart}
 use Rattle.verdicts.specs.Judging.{ruleOf, stateOf, Indexed}
 use Rattle.orphans.specs.Passing.{CleanedTo}
 use Rattle.orphans.specs.Entry.{limitsAt, Fit}
-use Rattle.verdicts.proofs.Desks.{table-same}
 use Rattle.orphans.proofs.Alike.{Same, clean-alike}
 
 -- ---- transparent cells

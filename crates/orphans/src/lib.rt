@@ -1,11 +1,16 @@
-// Cleaning: small regions take the index that most cells of large regions around them have.
+// Cleaning: small regions take the index that most cells of large regions around them have. The sheet is labelled once, and after the first pass only regions beside cells that became large in the pass before are judged.
 mod passing;
 mod rows;
+mod starting;
 
-use crate::passing::pass;
-use crate::passing::wipe;
+use crate::passing::first_pass;
+use crate::passing::later_pass;
 use crate::rows::refused;
+use crate::starting::any_small;
+use crate::starting::wipe;
 use base::Filling;
+use frontier::growing::mark_large;
+use grid::label::label_planes;
 use grid::tile::load;
 use grid::tile::store;
 use rules::Cleaning;
@@ -41,10 +46,29 @@ pub fn clean_planes(
 {
     let n = h * w;
     wipe(work, 4 * n, n);
-    for count in 0..max_passes {
-        if !pass(work, h, w, steps, palette, k, limit, max_delta) {
-            return count;
+    if max_passes == 0 {
+        return 0;
+    }
+    let t = label_planes(work, h, w, steps);
+    let count = t.regions as usize;
+    if !any_small(work, n, count, limit) {
+        return 0;
+    }
+    wipe(work, 5 * n, n + count);
+    mark_large(work, n, count, limit);
+    let mut begin = 0;
+    let mut end = first_pass(work, h, w, steps, palette, k, limit, max_delta, count);
+    if end == 0 {
+        return 0;
+    }
+    let left = max_passes - 1;
+    for made in 0..left {
+        let last = later_pass(work, h, w, steps, palette, k, limit, max_delta, begin, end);
+        if last == end {
+            return made + 1;
         }
+        begin = end;
+        end = last;
     }
     max_passes
 }

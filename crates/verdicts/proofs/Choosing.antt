@@ -5,8 +5,9 @@ use mathlib.Core.Logic.{⊎-elim}
 use mathlib.Core.Bool.{Bool, true, false, _&&_, cond}
 use mathlib.Core.List.{List}
 use mathlib.Core.Option.{Option, none, some}
-use native.Mathlib.Nat.{le-antisymm, le-step, max-eq-left, max-eq-right}
+use native.Mathlib.Nat.{le-antisymm, le-refl, le-step, max-eq-left, max-eq-right}
 use native.Mathlib.Numerals.{add-one}
+use native.Mathlib.Decide.{ℕ-discrete}
 use native.Mathlib.Omega.{arith}
 use borrow.Author.Tests.{eq-eqb, ne-eqb}
 use lib.Dec.{eqb, ltb}
@@ -14,7 +15,7 @@ use lib.Ieee.{Float, lt}
 use lib.IntN.{ℤ}
 use lib.ListN.{getD, replicate, getD-replicate}
 use Rattle.base.specs.Places.{greatest}
-use Rattle.base.proofs.Counting.{case, clash, left, right, both, same-test, eqb-yes, yes-eqb, leb-yes, yes-leb, no-leb, count-yes, greatest-above, greatest-is}
+use Rattle.base.proofs.Counting.{case, clash, left, right, both, same-test, eqb-yes, yes-eqb, leb-yes, yes-leb, no-leb, count-some, count-yes, greatest-above, greatest-is}
 use Rattle.rules.specs.Regions.{at, index}
 use Rattle.rules.specs.Pass.{Rule, marked, votes, most, frequent, choose, target, judged}
 use Rattle.verdicts.specs.declared.target.Target.{Target}
@@ -195,3 +196,54 @@ module _ (rule : Rule) (cells : List ℤ) (voters : List Bool) (own : ℕ) (coun
       ∙ ap (λ (x : ℕ). decision (nearest far counts x k) (rule .reach)) peak-most
       ∙ ap (λ (t : Target). decision t (rule .reach)) (nearest-target z k (omega arith))
       ∙ decision-is (target rule cells own voters k))
+
+-- ---- all votes are for one index
+
+module _ (rule : Rule) (cells : List ℤ) (voters : List Bool) (own c q : ℕ) (inside : q < rule .places) (votes-for : marked voters q ≡ true)
+    (same : (p : ℕ) → p < rule .places → marked voters p ≡ true → index (at cells p) ≡ c) where
+  one-voted : 0 < votes rule cells voters c
+  unfolding votes
+  one-voted = count-some (rule .places) (λ p. marked voters p && eqb (index (at cells p)) c) q inside (both votes-for (yes-eqb (same q inside votes-for)))
+
+  one-most : votes rule cells voters c ≡ most rule cells voters
+  unfolding most
+  one-most =
+      let g : votes rule cells voters c ≤ greatest (rule .places) (marked voters) (λ p. votes rule cells voters (index (at cells p))) =
+      rw (same q inside votes-for) at (greatest-above (rule .places) (marked voters) (λ p. votes rule cells voters (index (at cells p))) q inside votes-for) in
+      ⊎-elim (λ z. absurd (omega (arith, z, g, one-voted)))
+      (λ w. ap (votes rule cells voters) (sym (same (w .0) (w .1) (w .2))) ∙ sym (w .3))
+      (greatest-is (rule .places) (marked voters) (λ p. votes rule cells voters (index (at cells p))))
+
+  one-frequent : frequent rule cells voters c ≡ true
+  unfolding frequent
+  one-frequent = both (yes-leb {m = 1} {n = votes rule cells voters c} one-voted) (yes-eqb one-most)
+
+  other-frequent : (d : ℕ) → (d ≡ c → ⊥) → frequent rule cells voters d ≡ false
+  unfolding frequent votes
+  other-frequent d z =
+      case (frequent rule cells voters d)
+      (λ y. let v = leb-yes {m = 1} {n = votes rule cells voters d} (left (ltb 0 (votes rule cells voters d)) (eqb (votes rule cells voters d) (most rule cells voters)) y) in
+      let w = count-yes (rule .places) (λ p. marked voters p && eqb (index (at cells p)) d) v in
+      let m = left (marked voters (w .0)) (eqb (index (at cells (w .0))) d) (w .2) in
+      absurd (z (sym (eqb-yes (right (marked voters (w .0)) (eqb (index (at cells (w .0))) d) (w .2))) ∙ same (w .0) (w .1) m)))
+      (λ y. y)
+
+  one-before : (j : ℕ) → j ≤ c → target rule cells own voters j ≡ none
+  unfolding target choose
+  one-before zero h = refl
+  one-before (suc j) h = rw (other-frequent j (λ e. omega arith)) (one-before j (omega arith))
+
+  -- the target is that index
+  pub one-target : (j : ℕ) → c < j → target rule cells own voters j ≡ some c
+  unfolding target choose
+  one-target zero h = absurd (omega arith)
+  one-target (suc j) h =
+      elim (ℕ-discrete j c) [
+        | yes e ↦ rw (e, one-frequent, one-before c (le-refl c))
+        | no d ↦ rw (other-frequent j d) (one-target j (omega arith))
+      ]
+
+-- a target as the number that plane 6 holds
+pub decision-one : (rule : Rule) (own c : ℕ) → decision (Index c (rule .dist own c)) (rule .reach) ≡ code (judged rule own (some c))
+unfolding decision code judged
+decision-one rule own c = case (lt (rule .dist own c) (rule .reach)) (λ y. rw y) (λ z. rw z)

@@ -1,6 +1,6 @@
 pub mod Choosing
-pub mod Regions
-pub mod Desks
-pub mod Nearby
 pub mod Votes
+pub mod Agrees
+pub mod Keeping
+pub mod Nearby
 pub mod Verdicts

@@ -1,26 +1,19 @@
--- Looking for a large region beside a run of places: where none may be, no neighbour votes. Assumes nothing.
+-- Looking for a large cell beside places: where none may be, no neighbour votes. Assumes nothing.
 use Prim.Native.Nat.{ℕ, zero, suc, _+_, _-_, _*_, _/_, _%_, _≤_, _<_}
-use mathlib.Core.Path.{_≡_, refl, sym, ap}
+use mathlib.Core.Path.{_≡_, sym, ap, _∙_}
 use mathlib.Core.Logic.{_⊎_}
-use mathlib.Core.Bool.{Bool, true, false, _&&_, _||_, not}
+use mathlib.Core.Bool.{true, not, _&&_}
 use mathlib.Core.List.{List}
 use native.Mathlib.Nat.{div-add-mod'}
 use native.Mathlib.Numerals.{add-one}
 use native.Mathlib.Decide.{ℕ-discrete, decLt}
 use native.Mathlib.Omega.{arith}
-use borrow.Author.Tests.{ltb-false}
-use lib.Dec.{leb, ltb, eqb}
-use Rattle.base.specs.Places.{any}
-use Rattle.base.proofs.Counting.{clash, left, right, leb-yes, yes-any, any-no}
+use lib.Dec.{eqb, leb}
+use Rattle.base.proofs.Counting.{left, right, leb-yes}
 use Rattle.rules.specs.Grid.{close, eight}
 use Rattle.grid.specs.Steps.{hood}
 use Rattle.grid.specs.Planes.{plane}
 use Rattle.grid.proofs.Places.{hood-complete, step-few, hop-eight}
-use Rattle.verdicts.specs.Polling.{big, bigRow, bigNear, bigAround}
-
-pub neither : (a b : Bool) → (a || b) ≡ false → (a ≡ false) × (b ≡ false)
-neither true b e = clash refl e
-neither false b e = (refl, e)
 
 -- neighbours are at most a row and a column apart
 record Apart (w p q : ℕ) : Type 0 where
@@ -63,66 +56,32 @@ apart-around w p q a =
       ]
     ]
 
-module _ (n limit : ℕ) (a : List ℕ) where
-  row-none : (q : ℕ) → bigRow n limit a q ≡ false → (i : ℕ) → i < 3 → big n limit a (q + i) ≡ false
-  unfolding bigRow
-  row-none q e i l = go i l
-    where
-      u : ((big n limit a q || big n limit a (q + 1)) ≡ false) × (big n limit a (q + 2) ≡ false)
-      u = neither (big n limit a q || big n limit a (q + 1)) (big n limit a (q + 2)) e
+-- three cells in a row, one by one
+pub row-small : (n q : ℕ) (a : List ℕ) → plane n 5 a q ≡ 0 → plane n 5 a (q + 1) ≡ 0 → plane n 5 a (q + 2) ≡ 0 → (i : ℕ) → i < 3 → plane n 5 a (q + i) ≡ 0
+row-small n q a x y z zero l = let e : q + 0 ≡ q = omega arith in rw e x
+row-small n q a x y z (suc zero) l = y
+row-small n q a x y z (suc (suc zero)) l = z
+row-small n q a x y z (suc (suc (suc i))) l = absurd (omega arith)
 
-      go : (i : ℕ) → i < 3 → big n limit a (q + i) ≡ false
-      go zero l = let f : q + 0 ≡ q = omega arith in rw f (neither (big n limit a q) (big n limit a (q + 1)) (u .0) .0)
-      go (suc zero) l = neither (big n limit a q) (big n limit a (q + 1)) (u .0) .1
-      go (suc (suc zero)) l = u .1
-      go (suc (suc (suc i))) l = absurd (omega arith)
+-- three rows of three
+module _ (n w p : ℕ) (a : List ℕ) (rim : w + 1 ≤ p) (over : (i : ℕ) → i < 3 → plane n 5 a (p - (w + 1) + i) ≡ 0) (mid : (i : ℕ) → i < 3 → plane n 5 a (p - 1 + i) ≡ 0)
+    (under : (i : ℕ) → i < 3 → plane n 5 a (p + (w + 1) - 2 + i) ≡ 0) where
+  small-there : (q : ℕ) → Around w p q → plane n 5 a q ≡ 0
+  small-there q (above i l e) = let f : q ≡ p - (w + 1) + i = omega arith in rw f (over i l)
+  small-there q (level i l e) = let f : q ≡ p - 1 + i = omega arith in rw f (mid i l)
+  small-there q (below i l e) = let f : q ≡ p + (w + 1) - 2 + i = omega arith in rw f (under i l)
 
-  -- what the five tests say if none passes
-  record Nothing (w p : ℕ) : Type 0 where
-    pub rim : w + 1 ≤ p
-    pub over : bigRow n limit a (p - (w + 1)) ≡ false
-    pub mid : bigRow n limit a (p - 1) ≡ false
-    pub under : bigRow n limit a (p + (w + 1) - 2) ≡ false
+  pub near-small : (q : ℕ) → eight w p q ≡ true → plane n 5 a q ≡ 0
+  near-small q y = small-there q (apart-around w p q (eight-apart w p q y))
 
-  nothing : (w p : ℕ) → bigNear n w limit a p ≡ false → Nothing w p
-  unfolding bigNear
-  nothing w p e =
-      let t = ltb p (w + 1) in
-      let u = leb n (p + (w + 1)) in
-      let x = bigRow n limit a (p - (w + 1)) in
-      let y = bigRow n limit a (p - 1) in
-      let z = bigRow n limit a (p + (w + 1) - 2) in
-      let d = neither (t || u || x || y) z e in
-      let c = neither (t || u || x) y (d .0) in
-      let b = neither (t || u) x (c .0) in
-      record { rim = ltb-false p (w + 1) (neither t u (b .0) .0); over = b .1; mid = c .1; under = d .1 }
+-- the places of a run, one by one
+pub around-more : (n w : ℕ) (a : List ℕ) (from i p : ℕ) → p ≡ plane n 2 a i → ((j : ℕ) → from ≤ j → j < i → (q : ℕ) → eight w (plane n 2 a j) q ≡ true → plane n 5 a q ≡ 0) → ((q : ℕ) → eight w p q ≡ true → plane n 5 a q ≡ 0) →
+    (j : ℕ) → from ≤ j → j < i + 1 → (q : ℕ) → eight w (plane n 2 a j) q ≡ true → plane n 5 a q ≡ 0
+around-more n w a from i p e u v j lo hi q y = elim (ℕ-discrete j i) [
+  | yes x ↦ v q (ap (λ (z : ℕ). eight w z q) (e ∙ ap (plane n 2 a) (sym x)) ∙ y)
+  | no x ↦ u j lo (omega arith) q y
+]
 
-  around-none : (w p q : ℕ) → Nothing w p → Around w p q → big n limit a q ≡ false
-  around-none w p q o (above i l e) = let f : q ≡ p - (w + 1) + i = omega (arith, o .rim) in rw f (row-none (p - (w + 1)) (o .over) i l)
-  around-none w p q o (level i l e) = let f : q ≡ p - 1 + i = omega (arith, o .rim) in rw f (row-none (p - 1) (o .mid) i l)
-  around-none w p q o (below i l e) = let f : q ≡ p + (w + 1) - 2 + i = omega (arith, o .rim) in rw f (row-none (p + (w + 1) - 2) (o .under) i l)
-
-  -- ---- the places of a run
-
-  pub around-start : (w from : ℕ) → bigAround n w limit a from 0 ≡ false
-  unfolding bigAround any
-  around-start w from = refl
-
-  pub around-found : (w from i many : ℕ) → i < many → true ≡ bigNear n w limit a (plane n 2 a (from + i)) → true ≡ bigAround n w limit a from many
-  unfolding bigAround
-  around-found w from i many l e = sym (yes-any many (λ j. bigNear n w limit a (plane n 2 a (from + j))) i l (sym e))
-
-  pub around-more : (w from i : ℕ) → bigAround n w limit a from i ≡ false → false ≡ bigNear n w limit a (plane n 2 a (from + i)) → bigAround n w limit a from (i + 1) ≡ false
-  unfolding bigAround any
-  around-more w from i e z = rw (add-one i, ← z) e
-
-  pub around-silent : (w from many : ℕ) → bigAround n w limit a from many ≡ false → (i : ℕ) → i < many → bigNear n w limit a (plane n 2 a (from + i)) ≡ false
-  unfolding bigAround
-  around-silent w from many e i l = any-no many (λ j. bigNear n w limit a (plane n 2 a (from + j))) e i l
-
--- where no large region may be near, no neighbour is of one
-pub near-none : (h w steps limit : ℕ) (ok : (steps ≡ 4) ⊎ (steps ≡ 8)) (a : List ℕ) (p q : ℕ) → q < h * w → hood steps w p q ≡ true → bigNear (h * w) w limit a p ≡ false → big (h * w) limit a q ≡ false
-near-none h w steps limit ok a p q l y e =
-    let f = hood-complete steps ok h w p q l y in
-    around-none (h * w) limit a w p q (nothing (h * w) limit a w p e)
-    (apart-around w p q (eight-apart w p q (hop-eight h w p (f .0) q (step-few steps ok (f .0) (f .1)) (f .2))))
+-- neighbours in four directions are neighbours in eight
+pub hood-in : (h w steps : ℕ) → (steps ≡ 4) ⊎ (steps ≡ 8) → (p q : ℕ) → q < h * w → hood steps w p q ≡ true → eight w p q ≡ true
+hood-in h w steps ok p q l y = let f = hood-complete steps ok h w p q l y in hop-eight h w p (f .0) q (step-few steps ok (f .0) (f .1)) (f .2)

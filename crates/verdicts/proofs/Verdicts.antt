@@ -1,287 +1,317 @@
--- The verdict on a region, from its places in the planes and the votes of its poll. Assumes nothing.
+-- The verdict on a group, from the votes of its poll. Assumes nothing.
 use Prim.Native.Nat.{ℕ, suc, _+_, _-_, _*_, _≤_, _<_}
 use mathlib.Core.Path.{_≡_, refl, sym, ap, _∙_}
-use mathlib.Core.Logic.{⊎-elim}
-use mathlib.Core.Bool.{Bool, true, false, not, _&&_, _||_}
+use mathlib.Core.Logic.{_⊎_, inl, inr, ⊎-elim}
+use mathlib.Core.Bool.{Bool, true, false, _&&_}
 use mathlib.Core.List.{List}
 use mathlib.Core.Option.{Option}
-use native.Mathlib.Numerals.{add-one}
+use native.Mathlib.Decide.{ℕ-discrete}
 use native.Mathlib.Omega.{arith}
-use lib.Dec.{eqb, leb}
+use borrow.Author.Tests.{ne-eqb}
+use lib.Dec.{eqb}
 use lib.Ieee.{Float}
 use lib.IntN.{ℤ}
-use lib.ListN.{length, getD, replicate}
-use Rattle.base.specs.Places.{table, any, count}
-use Rattle.base.proofs.Counting.{case, clash, both, either, no-leb, left, right, not-true, not-false, same-test, eqb-yes, yes-eqb, leb-yes, yes-leb, table-at, any-yes, yes-any, any-same, count-le, count-same, greatest-is}
-use Rattle.rules.specs.Regions.{at, opaque, index, roots, root, inside, first, Symmetric}
-use Rattle.rules.specs.Masks.{regions}
-use Rattle.rules.specs.Pass.{Rule, View, marked, few, isLarge, large, view, votes, top, judged, voter, pending, decided, verdict}
-use Rattle.rules.proofs.Passes.{pending-not-large}
+use lib.ListN.{getD, replicate}
+use Rattle.base.specs.Places.{table, any}
+use Rattle.base.proofs.Counting.{case, clash, both, left, right, not-false, same-test, eqb-yes, yes-eqb, table-at, table-length, any-yes, yes-any, count-same, greatest-is}
+use Rattle.rules.specs.Grid.{eight}
+use Rattle.rules.specs.Regions.{at, opaque, index, Symmetric}
+use Rattle.rules.specs.Pass.{Rule, State, Verdict, stay, merge, freeze, marked, large, view, votes, top, target, judged, merges, freezes, fates, fate}
+use Rattle.rules.proofs.Roots.{join-same}
+use Rattle.rules.proofs.Passes.{large-opaque, small-or-large}
 use Rattle.rules.proofs.More.{target-past}
+use Rattle.rules.proofs.Frontier.{fronted-start}
+use Rattle.rules.proofs.Groups.{Grouped, waits, groupVerdict, group-rest, group-fates, group-acts, group-large}
 use Rattle.grid.specs.Steps.{hood}
 use Rattle.grid.specs.Planes.{plane, cellsOf, endOf}
-use Rattle.grid.proofs.Places.{area}
-use Rattle.verdicts.specs.Choice.{apart, choice}
-use Rattle.grid.proofs.Planes.{cells-size}
-use Rattle.verdicts.specs.Polling.{Desk, big, bigAround, frozenAmong, ballot, Polled}
-use Rattle.verdicts.specs.Judging.{ruleOf, stateOf, code, Indexed, ruled, Judged}
-use Rattle.verdicts.proofs.Choosing.{peak-none, choice-none, choice-is}
-use Rattle.verdicts.proofs.Regions.{not-empty, lead-below, lead-opaque, lead-first, lead-big, nth-in, any-run, big-is}
-use Rattle.verdicts.proofs.Desks.{kept-none, index-is, symmetric}
-use Rattle.verdicts.proofs.Nearby.{neither, around-silent, near-none}
-use Rattle.verdicts.proofs.Votes.{Beside, tally-start, polled-still}
+use Rattle.grid.proofs.Places.{hood-symmetric}
+use Rattle.grid.proofs.Planes.{cells-size, index-is}
+use Rattle.verdicts.specs.declared.target.Target.the-variants.{Index}
+use Rattle.verdicts.specs.Choice.{apart, decision, choice}
+use Rattle.verdicts.specs.Polling.{ballot, Polled}
+use Rattle.verdicts.specs.Judging.{ruleOf, stateOf, code, Indexed, largeOf, Sound, Judged}
+use Rattle.verdicts.proofs.Choosing.{peak-none, choice-none, choice-is, one-target, decision-one}
+use Rattle.verdicts.proofs.Agrees.{OnePaint}
+use Rattle.verdicts.specs.Groups.{Group, GroupedSheet}
+use Rattle.verdicts.proofs.Votes.{kept-none, large-then, large-was, tally-new, polled-still}
+use Rattle.verdicts.proofs.Nearby.{hood-in}
 
--- a pending region has no frozen cell
-pending-thawed : (rule : Rule) (v : View) (m : ℕ) → pending rule v m ≡ true → any (rule .places) (λ p. inside (v .cells) (v .root) m p && marked (v .frozen) p) ≡ false
-unfolding pending
-pending-thawed rule v m e =
-    not-true (right (first (v .cells) (v .root) m && not (marked (v .large) m) && rule .free (index (at (v .cells) m)))
-    (not (any (rule .places) (λ p. inside (v .cells) (v .root) m p && marked (v .frozen) p))) e)
+-- a waiting place, of a rule that may decide every index
+waits-yes : (rule : Rule) (s : State) (x : ℕ) → large rule (s .cells) x ≡ false → rule .free (index (at (s .cells) x)) ≡ true → marked (s .frozen) x ≡ false → waits rule s x ≡ true
+unfolding waits
+waits-yes rule s x l f z = both (both (not-false l) f) (not-false z)
 
-module _ (h w steps limit : ℕ) (palette : List Float) (reach : Float) (a : List ℕ) (desk : Desk h w steps a) where
+waits-not-large : (rule : Rule) (s : State) (x : ℕ) → large rule (s .cells) x ≡ true → waits rule s x ≡ false
+unfolding waits
+waits-not-large rule s x l = rw l
+
+-- what is repainted or frozen has a number
+pub code-acts : (w : Verdict) → (merges w ≡ true) ⊎ (freezes w ≡ true) → code w ≡ 0 → ⊥
+unfolding merges freezes code
+code-acts stay h e = ⊎-elim (λ y. clash y refl) (λ y. clash y refl) h
+code-acts (merge c d) h e = omega arith
+code-acts (freeze c d) h e = omega arith
+
+module _ (h w steps limit : ℕ) (palette : List Float) (reach : Float) (a : List ℕ) (board : GroupedSheet h w steps a) (sound : Sound (ruleOf h w steps limit palette reach) (h * w) a) where
   abbrev n : ℕ
   n = h * w
-
-  abbrev adj : ℕ → ℕ → Bool
-  adj = hood steps w
 
   abbrev rule : Rule
   rule = ruleOf h w steps limit palette reach
 
+  abbrev s : State
+  s = stateOf n a
+
   abbrev cells : List ℤ
   cells = cellsOf n a
 
-  abbrev v : View
-  v = view rule (stateOf n a)
+  abbrev group : ℕ → ℕ
+  group = plane n 1 a
 
-  large-big : (q : ℕ) → q < n → marked (v .large) q ≡ big n limit a q
-  unfolding marked view ruleOf stateOf isLarge few root
-  large-big q l = table-at n _ false q l ∙ sym (big-is n adj cells a (desk .regions) (desk .taken) (cells-size n a) (symmetric h w steps a desk) (desk .labelled) limit q l)
+  abbrev adj : ℕ → ℕ → Bool
+  adj = hood steps w
 
-  large-opaque : (q : ℕ) → q < n → big n limit a q ≡ true → opaque cells q ≡ true
-  large-opaque q l y = left _ _ (sym (big-is n adj cells a (desk .regions) (desk .taken) (cells-size n a) (symmetric h w steps a desk) (desk .labelled) limit q l) ∙ y)
+  sym-rule : Symmetric (rule .adj)
+  unfolding ruleOf
+  sym-rule = hood-symmetric steps (board .ways) w
 
-  module _ (t : ℕ) (lt : t < desk .regions) where
-    abbrev from : ℕ
-    from = endOf n a t
-
-    abbrev many : ℕ
-    many = endOf n a (suc t) - endOf n a t
-
-    abbrev m : ℕ
-    m = plane n 2 a from
-
-    stays : pending rule v m ≡ false → 0 ≡ ruled rule n a t
-    unfolding ruled verdict decided code
-    stays e = rw e
-
-    lead-in : m < n
-    lead-in = lead-below n adj cells a (desk .regions) (desk .taken) (cells-size n a) (symmetric h w steps a desk) (desk .labelled) t lt
-
-    lead-seen : opaque cells m ≡ true
-    lead-seen = lead-opaque n adj cells a (desk .regions) (desk .taken) (cells-size n a) (symmetric h w steps a desk) (desk .labelled) t lt
-
-    abbrev inTest : ℕ → Bool
-    inTest = inside cells (roots n adj cells) m
-
-    lead-any : (u : ℕ → Bool) → any n (λ p. inTest p && u p) ≡ any many (λ i. u (plane n 2 a (from + i)))
-    lead-any = any-run n adj cells a (desk .regions) (desk .taken) (cells-size n a) (symmetric h w steps a desk) (desk .labelled) t lt
-
-    many-big : marked (v .large) m ≡ leb limit many
-    many-big = large-big m lead-in ∙ lead-big n adj cells a (desk .regions) (desk .taken) (cells-size n a) (symmetric h w steps a desk) (desk .labelled) t lt limit
-
-    -- a large region stays
-    pub stays-large : limit ≤ many → 0 ≡ ruled rule n a t
-    stays-large l =
-        stays (case (pending rule v m)
-        (λ y. clash (many-big ∙ yes-leb l) (pending-not-large rule v m y)) (λ z. z))
-
-    frozen-is : any n (λ p. inTest p && marked (v .frozen) p) ≡ frozenAmong n a from many
-    unfolding view stateOf frozenAmong marked
-    frozen-is =
-        lead-any (λ p. getD (table n (λ p. not (eqb (plane n 4 a p) 0))) p false)
-        ∙ any-same many _ _ (λ i l. table-at n (λ p. not (eqb (plane n 4 a p) 0)) false (plane n 2 a (from + i))
-        (nth-in n adj cells a (desk .regions) (desk .taken) (cells-size n a) (symmetric h w steps a desk) (desk .labelled) t lt i l .1))
-
-    -- a region with a frozen cell stays
-    pub stays-frozen : frozenAmong n a from many ≡ true → 0 ≡ ruled rule n a t
-    unfolding view ruleOf stateOf
-    stays-frozen y = stays (case (pending rule v m) (λ z. clash (frozen-is ∙ y) (pending-thawed rule v m z)) (λ z. z))
-
-    -- any other is decided
-    decides : many < limit → frozenAmong n a from many ≡ false → pending rule v m ≡ true
-    unfolding pending view ruleOf stateOf
-    decides l z =
-        both (both (both (lead-first n adj cells a (desk .regions) (desk .taken) (cells-size n a) (symmetric h w steps a desk) (desk .labelled) t lt) (not-false (many-big ∙ small))) refl) (not-false (frozen-is ∙ z))
-      where
-        small : leb limit many ≡ false
-        small = case (leb limit many) (λ y. let g = leb-yes {m = limit} {n = many} y in absurd (omega arith)) (λ u. u)
-
-    -- ---- the poll
-
-    module _ (k : ℕ) (inK : (q : ℕ) → q < n → plane n 0 a q ≤ k) (b counts : List ℕ) (fresh : (q : ℕ) → q < n → plane n 5 a q < t + 1)
-        (polled : Polled n limit (t + 1) (Beside h w steps a from (endOf n a (suc t))) a b counts) where
-      abbrev own : ℕ
-      own = index (at cells m)
-
-      abbrev voters : List Bool
-      voters = table n (voter rule v m)
-
-      voter-is : (q : ℕ) → q < n → voter rule v m q ≡ eqb (plane n 5 b q) (t + 1)
-      unfolding voter view ruleOf stateOf
-      voter-is q l =
-          ap (λ (x : Bool). marked (v .large) q && x) (lead-any (λ p. adj p q))
-          ∙ ap (λ (x : Bool). x && any many (λ i. adj (plane n 2 a (from + i)) q)) (large-big q l)
-          ∙ same-test there back
-        where
-          there : (big n limit a q && any many (λ i. adj (plane n 2 a (from + i)) q)) ≡ true → eqb (plane n 5 b q) (t + 1) ≡ true
-          there y =
-              let i = any-yes many (λ i. adj (plane n 2 a (from + i)) q) (right (big n limit a q) (any many (λ i. adj (plane n 2 a (from + i)) q)) y) in
-              yes-eqb (polled .heard q l (from + i .0, omega arith, omega (arith, i .1), i .2) (left (big n limit a q) (any many (λ i. adj (plane n 2 a (from + i)) q)) y))
-
-          back : eqb (plane n 5 b q) (t + 1) ≡ true → (big n limit a q && any many (λ i. adj (plane n 2 a (from + i)) q)) ≡ true
-          back y =
-              let e : plane n 5 b q ≡ t + 1 = eqb-yes y in
-              ⊎-elim
-              (λ f. let g = fresh q l in absurd (omega arith))
-              (λ f. let i = f .1 in
-              both (f .2) (yes-any many (λ i. adj (plane n 2 a (from + i)) q) (i .0 - from) (omega (arith, i .1, i .2))
-              (ap (λ (x : ℕ). adj (plane n 2 a x) q) (omega (arith, i .1)) ∙ i .3)))
-              (polled .marks q l)
-
-      voter-opaque : (q : ℕ) → q < n → voter rule v m q ≡ true → opaque cells q ≡ true
-      unfolding voter
-      voter-opaque q l y = large-opaque q l (sym (large-big q l) ∙ left _ _ y)
-
-      marked-is : (q : ℕ) → q < n → marked voters q ≡ voter rule v m q
-      unfolding marked
-      marked-is q l = table-at n (voter rule v m) false q l
-
-      index-in : (q : ℕ) → q < n → opaque cells q ≡ true → index (at cells q) < k
-      index-in q l o = let e = index-is n a q l o in omega (arith, inK q l)
-
-      -- the counts are the votes
-      tallied : (c : ℕ) → c < 256 → getD counts c 0 ≡ votes rule cells voters c
-      unfolding votes ballot ruleOf
-      tallied c lc =
-          polled .tally .votes c lc
-          ∙ count-same n (ballot n b (t + 1) c) (λ q. marked voters q && eqb (index (at cells q)) c)
-          (λ q l y. let y0 = left (eqb (plane n 5 b q) (t + 1)) (eqb (plane n 0 b q) (c + 1)) y in
-          let y1 = right (eqb (plane n 5 b q) (t + 1)) (eqb (plane n 0 b q) (c + 1)) y in
-          let f : plane n 0 b q ≡ c + 1 = eqb-yes y1 in
-          let g = polled .kept .same 0 q (omega arith) l in
-          let u = voter-is q l ∙ y0 in
-          let e = index-is n a q l (voter-opaque q l u) in
-          both (marked-is q l ∙ u) (yes-eqb {m = index (at cells q)} (omega arith)))
-          (λ q l y. let u = sym (marked-is q l) ∙ left (marked voters q) (eqb (index (at cells q)) c) y in
-          let f : index (at cells q) ≡ c = eqb-yes (right (marked voters q) (eqb (index (at cells q)) c) y) in
-          let g = polled .kept .same 0 q (omega arith) l in
-          let e = index-is n a q l (voter-opaque q l u) in
-          both (sym (voter-is q l) ∙ u) (yes-eqb {m = plane n 0 b q} {n = c + 1} (omega arith)))
-
-      top-in : top rule cells ≤ k
-      unfolding top ruleOf
-      top-in =
-          let o = index-in m lead-in lead-seen in
-          ⊎-elim (λ e. rw e (omega arith)) (λ g. rw (g .3) (index-in (g .0) (g .1) (g .2)))
-          (greatest-is n (opaque cells) (λ p. index (at cells p)))
-
-      -- the verdict is the choice by the counts
-      pub polled-verdict : k ≤ 256 → many < limit → frozenAmong n a from many ≡ false → choice (apart palette (plane n 0 a m - 1)) counts k reach ≡ ruled rule n a t
-      unfolding ruled verdict decided view ruleOf stateOf
-      polled-verdict lk l z =
-          let e = index-is n a m lead-in lead-seen in
-          let i : plane n 0 a m - 1 ≡ own = omega arith in
-          ap (λ (x : ℕ). choice (apart palette x) counts k reach) i
-          ∙ choice-is rule cells voters own counts k (λ c lc. tallied c (omega arith)) (λ q lq y. index-in q lq (voter-opaque q lq (sym (marked-is q lq) ∙ y)))
-          ∙ ap (λ (o : Option ℕ). code (judged rule own o)) (target-past rule v voters (λ q lq y. voter-opaque q lq (sym (marked-is q lq) ∙ y)) own k top-in)
-          ∙ rw (decides l z)
-
--- ---- as the code has it
-
--- there are at most as many regions as cells
-pub in-range : (h w steps : ℕ) (a : List ℕ) → Desk h w steps a → (t : ℕ) → t < regions (h * w) (hood steps w) (cellsOf (h * w) a) → (t < h * w) × (h * w ≤ 264196)
-unfolding regions
-in-range h w steps a desk t l = (
-  omega (arith, count-le (h * w) (first (cellsOf (h * w) a) (roots (h * w) (hood steps w) (cellsOf (h * w) a)))),
-  area h w (desk .rows) (desk .cols),
-)
-
--- the places of the region with the label t + 1 stand from `from` on and before `to`; the first is at `lead`
-pub record Run (h w steps : ℕ) (a : List ℕ) (t from to : ℕ) : Type 0 where
-  pub few : h * w ≤ 264196
-  pub room : 8 * (h * w) ≤ length a
-  pub label : t < h * w
-  pub some : from < to
-  pub end : to ≤ h * w
-  pub lead : plane (h * w) 2 a from < h * w
-  pub painted : 1 ≤ plane (h * w) 0 a (plane (h * w) 2 a from)
-  pub places : (i : ℕ) → i < to → plane (h * w) 2 a i < h * w
-
-module _ (h w steps : ℕ) (a : List ℕ) (desk : Desk h w steps a) (t : ℕ) (lt : t < regions (h * w) (hood steps w) (cellsOf (h * w) a))
-    (from to : ℕ) (ef : from ≡ endOf (h * w) a t) (et : to ≡ endOf (h * w) a (t + 1)) where
-  counted : t < desk .regions
-  counted = rw (desk .labelled .count) lt
-
-  ends : to ≡ endOf (h * w) a (suc t)
-  ends = et ∙ ap (endOf (h * w) a) (add-one t)
-
-  pub run-at : Run h w steps a t from to
-  run-at = record {
-    few = area h w (desk .rows) (desk .cols);
-    room = desk .room;
-    label = in-range h w steps a desk t lt .0;
-    some = rw (ef, ends) (not-empty n (hood steps w) cells a (desk .regions) (desk .taken) len sym-hood (desk .labelled) t counted);
-    end = inEnd;
-    lead = rw ef (lead-below n (hood steps w) cells a (desk .regions) (desk .taken) len sym-hood (desk .labelled) t counted);
-    painted = rw ef (let e = index-is n a (plane n 2 a (endOf n a t)) (lead-below n (hood steps w) cells a (desk .regions) (desk .taken) len sym-hood (desk .labelled) t counted) (lead-opaque n (hood steps w) cells a (desk .regions) (desk .taken) len sym-hood (desk .labelled) t counted) in omega arith);
-    places = λ i l. desk .labelled .placed i (let e = desk .labelled .limits (suc t) counted in omega (arith, ends)) .0;
+  pub grouped : Grouped rule s group
+  unfolding ruleOf stateOf
+  grouped = record {
+    size = cells-size n a;
+    room = table-length n _;
+    shown = sound .shown;
+    region = sound .region;
+    frozen = sound .frozen;
   }
-    where
-      n : ℕ
-      n = h * w
 
-      cells : List ℤ
-      cells = cellsOf (h * w) a
+  -- q neighbours a place of the group t
+  abbrev Beside : ℕ → ℕ → Type 0
+  Beside t q = (i : ℕ) × (endOf n a t ≤ i) × (i < endOf n a (suc t)) × (hood steps w (plane n 2 a i) q ≡ true)
 
-      len : length cells ≡ n
-      len = cells-size (h * w) a
+  pub paints : (q : ℕ) → q < n → (plane n 5 a q ≡ 0 → ⊥) → (1 ≤ plane n 0 a q) × (plane n 0 a q ≤ 256)
+  paints q l z = (board .large q l z, board .paint q l)
 
-      sym-hood : Symmetric (hood steps w)
-      sym-hood = symmetric h w steps a desk
+  module _ (t : ℕ) (g : Group n a t) where
+    abbrev lead : ℕ
+    lead = plane n 2 a (endOf n a t)
 
-      inEnd : to ≤ h * w
-      inEnd = let e = desk .labelled .limits (suc t) counted in omega (arith, ends, desk .labelled .room)
+    lead-in : lead < n
+    lead-in = g .places (endOf n a t) (omega arith) (g .some) .0
 
-  module _ (limit : ℕ) (palette : List Float) (reach : Float) (fresh : (q : ℕ) → q < h * w → plane (h * w) 5 a q ≤ t) where
-    stayed : 0 ≡ ruled (ruleOf h w steps limit palette reach) (h * w) a t → Judged (ruleOf h w steps limit palette reach) (h * w) t a a 0
-    stayed e = record { kept = kept-none (h * w) a; rest = λ q l. refl; marks = λ q l. omega (arith, fresh q l); right = e }
+    lead-label : group lead ≡ suc t
+    lead-label = g .places (endOf n a t) (omega arith) (g .some) .1
 
-    pub judged-spared : true ≡ (leb limit (to - from) || frozenAmong (h * w) a from (to - from)) → Judged (ruleOf h w steps limit palette reach) (h * w) t a a 0
-    judged-spared y =
-        ⊎-elim (λ l. stayed (stays-large h w steps limit palette reach a desk t counted (rw (ef, ends) at (leb-yes {m = limit} {n = to - from} l))))
-        (λ z. stayed (stays-frozen h w steps limit palette reach a desk t counted (rw (ef, ends) at z)))
-        (either (leb limit (to - from)) (frozenAmong (h * w) a from (to - from)) (sym y))
+    module _ (x : ℕ) (lx : x < n) (gx : group x ≡ suc t) where
+      some : 0 < group x
+      some = omega (arith, gx)
 
-    pub judged-polled : (k : ℕ) → Indexed (h * w) k a → false ≡ (leb limit (to - from) || frozenAmong (h * w) a from (to - from)) → (b counts : List ℕ) →
-        Polled (h * w) limit (t + 1) (Beside h w steps a from to) a b counts → (r : ℕ) → r ≡ choice (apart palette (plane (h * w) 0 a (plane (h * w) 2 a from) - 1)) counts k reach →
-        Judged (ruleOf h w steps limit palette reach) (h * w) t a b r
-    judged-polled k known y b counts u r e =
-        let z = neither (leb limit (to - from)) (frozenAmong (h * w) a from (to - from)) (sym y) in
+      seen : opaque cells x ≡ true
+      seen = sound .shown x lx .1 some
+
+      stays : waits rule s x ≡ false → 0 ≡ code (fate (fates rule s) x)
+      unfolding ruleOf code
+      stays z = rw (group-rest rule sym-rule s group grouped x lx some z)
+
+      lead-large : large rule cells lead ≡ large rule cells x
+      unfolding ruleOf stateOf
+      lead-large = group-large rule sym-rule s group grouped lead x lead-in lx (omega (arith, lead-label)) (lead-label ∙ sym gx)
+
+      -- a large group stays
+      pub stays-big : (plane n 5 a lead ≡ 0 → ⊥) → 0 ≡ code (fate (fates rule s) x)
+      unfolding largeOf stateOf
+      stays-big z = stays (waits-not-large rule s x (sym lead-large ∙ sym (sound .flags lead lead-in) ∙ rw (ne-eqb (plane n 5 a lead) 0 z)))
+
+      -- ---- the group is small and has no number
+
+      module _ (free : plane n 6 a t ≡ 0) (little : plane n 5 a lead ≡ 0) (k : ℕ) (inK : (q : ℕ) → q < n → plane n 0 a q ≤ k) where
+        not-large : large rule cells x ≡ false
+        unfolding largeOf
+        not-large = sym lead-large ∙ sym (sound .flags lead lead-in) ∙ rw little
+
+        waiting : waits rule s x ≡ true
+        unfolding ruleOf stateOf
+        waiting = waits-yes rule s x not-large refl (case (marked (s .frozen) x) (λ y. absurd (sound .thawed x t lx gx free y)) (λ z. z))
+
+        abbrev own : ℕ
+        own = index (at cells x)
+
+        abbrev near : ℕ → ℕ → Bool
+        near q p = eqb (group x) (group p) && adj p q
+
+        abbrev votesAt : ℕ → Bool
+        votesAt q = large rule cells q && any n (near q)
+
+        abbrev voters : List Bool
+        voters = table n votesAt
+
+        -- who votes is large, and beside a place of the group
+        voter-beside : (q : ℕ) → q < n → votesAt q ≡ true → Beside t q × (plane n 5 a q ≡ 0 → ⊥)
+        unfolding largeOf
+        voter-beside q l y =
+            let p = any-yes n (near q) (right (large rule cells q) (any n (near q)) y) in
+            let e : group x ≡ group (p .0) = eqb-yes (left (eqb (group x) (group (p .0))) (adj (p .0) q) (p .2)) in
+            let i = g .all (p .0) (p .1) (sym e ∙ gx) in (
+              (i .0, i .1, i .2, ap (λ (z : ℕ). adj z q) (i .3) ∙ right (eqb (group x) (group (p .0))) (adj (p .0) q) (p .2)),
+              (λ z. clash (left (large rule cells q) (any n (near q)) y) (sym (sound .flags q l) ∙ rw z)),
+            )
+
+        beside-voter : (q : ℕ) → q < n → Beside t q → (plane n 5 a q ≡ 0 → ⊥) → votesAt q ≡ true
+        unfolding largeOf
+        beside-voter q l i z =
+            let p = g .places (i .0) (i .1) (i .2) in
+            both (sym (sound .flags q l) ∙ rw (ne-eqb (plane n 5 a q) 0 z)) (yes-any n (near q) (plane n 2 a (i .0)) (p .0) (both (yes-eqb (gx ∙ sym (p .1))) (i .3)))
+
+        voter-opaque : (q : ℕ) → q < n → votesAt q ≡ true → opaque cells q ≡ true
+        unfolding ruleOf
+        voter-opaque q l y = large-opaque rule sym-rule cells (cells-size n a) q (left (large rule cells q) (any n (near q)) y)
+
+        marked-is : (q : ℕ) → q < n → marked voters q ≡ votesAt q
+        unfolding marked
+        marked-is q l = table-at n votesAt false q l
+
+        index-in : (q : ℕ) → q < n → opaque cells q ≡ true → index (at cells q) < k
+        index-in q l o = let e = index-is n a q l o in omega (arith, inK q l)
+
+        top-in : top rule cells ≤ k
+        unfolding top ruleOf
+        top-in =
+            let o = index-in x lx seen in
+            ⊎-elim (λ e. rw e (omega arith)) (λ y. rw (y .3) (index-in (y .0) (y .1) (y .2)))
+            (greatest-is n (opaque cells) (λ p. index (at cells p)))
+
+        own-is : plane n 0 a lead - 1 ≡ own
+        unfolding ruleOf stateOf
+        own-is =
+            let u = ⊎-elim (λ y. y) (λ y. clash y not-large) (small-or-large rule sym-rule cells (cells-size n a) x seen) in
+            let j = sound .region x lead u lead-in .1 (gx ∙ sym lead-label) in
+            let e = index-is n a lead lead-in (sound .shown lead lead-in .1 (omega (arith, lead-label))) in
+            let i : index (at cells lead) ≡ own = ap index (sym (join-same (rule .adj) cells j)) in
+            omega arith
+
+        -- its fate is the verdict by these voters, with indices below k for targets
+        fate-is : code (judged rule own (target rule cells own voters k)) ≡ code (fate (fates rule s) x)
+        unfolding ruleOf stateOf groupVerdict view
+        fate-is =
+            ap (λ (o : Option ℕ). code (judged rule own o)) (target-past rule (view rule s) voters (λ q lq y. voter-opaque q lq (sym (marked-is q lq) ∙ y)) own k top-in)
+            ∙ sym (ap code (group-fates rule sym-rule s group grouped (large rule cells) (fronted-start rule sym-rule s (cells-size n a)) x lx some ∙ rw waiting))
+
+        -- a voter decides it
+        voter-decides : (q : ℕ) → q < n → votesAt q ≡ true → code (fate (fates rule s) x) ≡ 0 → ⊥
+        unfolding ruleOf stateOf
+        voter-decides q l v z =
+            let p = any-yes n (near q) (right (large rule cells q) (any n (near q)) v) in
+            code-acts (fate (fates rule s) x)
+            (group-acts rule sym-rule s group grouped (large rule cells) (fronted-start rule sym-rule s (cells-size n a)) x (p .0) q lx some waiting (p .1)
+            (eqb-yes (left (eqb (group x) (group (p .0))) (adj (p .0) q) (p .2))) (right (eqb (group x) (group (p .0))) (adj (p .0) q) (p .2)) (left (large rule cells q) (any n (near q)) v)) z
+
+        -- all voters have one paint: the verdict is by that index
+        pub agreed-fate : (v : ℕ) → OnePaint h w steps (board .ways) a paints (endOf n a t) (endOf n a (suc t)) v → decision (Index (v - 1) (apart palette (plane n 0 a lead - 1) (v - 1))) reach ≡ code (fate (fates rule s) x)
+        unfolding ruleOf
+        agreed-fate v u =
+            let q = u .place in
+            let l = u .inside in
+            let y = beside-voter q l (u .beside) (u .big) in
+            let index-v : (p : ℕ) → p < n → votesAt p ≡ true → index (at cells p) ≡ v - 1 =
+            (λ p lp z. let b = voter-beside p lp z in let e = index-is n a p lp (voter-opaque p lp z) in let f = u .same p lp (b .0) (b .1) in omega arith) in
+            let below : v - 1 < k = rw (index-v q l y) at (index-in q l (voter-opaque q l y)) in
+            ap (λ (o : ℕ). decision (Index (v - 1) (apart palette o (v - 1))) reach) own-is
+            ∙ decision-one rule own (v - 1)
+            ∙ sym (ap (λ (o : Option ℕ). code (judged rule own o)) (one-target rule cells voters own (v - 1) q l (marked-is q l ∙ y) (λ p lp z. index-v p lp (sym (marked-is p lp) ∙ z)) k below))
+            ∙ fate-is
+
+        -- ---- the poll
+
+        module _ (b counts : List ℕ) (fresh : (q : ℕ) → q < n → plane n 5 a q ≡ t + 2 → ⊥) (polled : Polled n (t + 2) (Beside t) a b counts) where
+          voter-is : (q : ℕ) → q < n → votesAt q ≡ eqb (plane n 5 b q) (t + 2)
+          voter-is q l =
+              same-test
+              (λ y. let v = voter-beside q l y in yes-eqb (polled .voted q l (v .0) (v .1)))
+              (λ y. ⊎-elim (λ f. absurd (fresh q l (sym f ∙ eqb-yes y))) (λ f. beside-voter q l (f .1) (f .2)) (polled .marks q l))
+
+          -- the counts are the votes
+          tallied : (c : ℕ) → c < 256 → getD counts c 0 ≡ votes rule cells voters c
+          unfolding votes ballot ruleOf
+          tallied c lc =
+              polled .tally .votes c lc
+              ∙ count-same n (ballot n b (t + 2) c) (λ q. marked voters q && eqb (index (at cells q)) c)
+              (λ q l y. let y0 = left (eqb (plane n 5 b q) (t + 2)) (eqb (plane n 0 b q) (c + 1)) y in
+              let y1 = right (eqb (plane n 5 b q) (t + 2)) (eqb (plane n 0 b q) (c + 1)) y in
+              let f : plane n 0 b q ≡ c + 1 = eqb-yes y1 in
+              let e0 = polled .kept .same 0 q (λ z. absurd (omega arith)) l in
+              let u = voter-is q l ∙ y0 in
+              let e = index-is n a q l (voter-opaque q l u) in
+              both (marked-is q l ∙ u) (yes-eqb {m = index (at cells q)} (omega arith)))
+              (λ q l y. let u = sym (marked-is q l) ∙ left (marked voters q) (eqb (index (at cells q)) c) y in
+              let f : index (at cells q) ≡ c = eqb-yes (right (marked voters q) (eqb (index (at cells q)) c) y) in
+              let e0 = polled .kept .same 0 q (λ z. absurd (omega arith)) l in
+              let e = index-is n a q l (voter-opaque q l u) in
+              both (sym (voter-is q l) ∙ u) (yes-eqb {m = plane n 0 b q} {n = c + 1} (omega arith)))
+
+          -- the verdict is the choice by the counts
+          pub polled-fate : k ≤ 256 → choice (apart palette (plane n 0 a lead - 1)) counts k reach ≡ code (fate (fates rule s) x)
+          unfolding ruleOf
+          polled-fate lk =
+              ap (λ (y : ℕ). choice (apart palette y) counts k reach) own-is
+              ∙ choice-is rule cells voters own counts k (λ c lc. tallied c (omega arith)) (λ q lq y. index-in q lq (voter-opaque q lq (sym (marked-is q lq) ∙ y)))
+              ∙ fate-is
+
+          -- a cell that voted decides it
+          pub vote-decides : (q : ℕ) → q < n → plane n 5 b q ≡ t + 2 → code (fate (fates rule s) x) ≡ 0 → ⊥
+          vote-decides q l e = voter-decides q l (voter-is q l ∙ yes-eqb e)
+
+    -- ---- as the code has it
+
+    pub judged-done : (plane n 6 a t ≡ 0 → ⊥) → Judged rule n t a a 0
+    judged-done z = record { kept = kept-none n a; large = λ q l. refl; marks = λ q l. inl refl; done = λ y. refl; little = λ y. absurd (y refl); right = λ y. absurd (z y) }
+
+    pub judged-big : (plane n 5 a lead ≡ 0 → ⊥) → Judged rule n t a a 0
+    judged-big z = record { kept = kept-none n a; large = λ q l. refl; marks = λ q l. inl refl; done = λ y. refl; little = λ y. absurd (y refl); right = λ y x l e. stays-big x l e z }
+
+    -- one paint is all that large neighbours have; `from`, `to` and `paint` are as they were read
+    pub judged-agreed : (from to : ℕ) → from ≡ endOf n a t → to ≡ endOf n a (suc t) → plane n 6 a t ≡ 0 → plane n 5 a lead ≡ 0 → (k : ℕ) → Indexed n k a → (v : ℕ) → OnePaint h w steps (board .ways) a paints from to v →
+        (paint : ℕ) → paint ≡ plane n 0 a lead → (r : ℕ) → r ≡ decision (Index (v - 1) (apart palette (paint - 1) (v - 1))) reach → Judged rule n t a a r
+    judged-agreed from to ef et z y k known v u paint ep r e =
         record {
-          kept = u .kept;
-          rest = u .rest;
-          marks = λ q lq. ⊎-elim (λ f. omega (arith, fresh q lq)) (λ f. omega (arith, f .0)) (u .marks q lq);
-          right = (rw ef at e) ∙ polled-verdict h w steps limit palette reach a desk t counted k (known .below) b counts
-              (λ q lq. omega (arith, fresh q lq)) (rw (ef, ends) at u) (known .few) (rw (ef, ends) at (no-leb {m = limit} {n = to - from} (z .0))) (rw (ef, ends) at (z .1));
+          kept = kept-none n a;
+          large = λ q l. refl;
+          marks = λ q l. inl refl;
+          done = λ x. absurd (x z);
+          little = λ x. y;
+          right = λ q x l i. (rw ep at e) ∙ agreed-fate x l i z y k (known .below) v (rw (ef, et) at u);
         }
 
-    -- no neighbour is of a large region: the poll would change nothing
-    pub judged-silent : (k : ℕ) → Indexed (h * w) k a → false ≡ (leb limit (to - from) || frozenAmong (h * w) a from (to - from)) →
-        bigAround (h * w) w limit a from (to - from) ≡ false → Judged (ruleOf h w steps limit palette reach) (h * w) t a a 0
-    judged-silent k known y z =
-        judged-polled k known y a (replicate 256 0)
-        (polled-still (h * w) limit (t + 1) a (replicate 256 0) (tally-start (h * w) (t + 1) a (λ q l. omega (arith, fresh q l)))
-        (λ q l b large. clash large (near-none h w steps limit (desk .ways) a (plane (h * w) 2 a (b .0)) q l (b .3)
-        (rw (let e : from + (b .0 - from) ≡ b .0 = omega (arith, b .1) in e) at (around-silent (h * w) limit a w from (to - from) z (b .0 - from) (omega (arith, b .1, b .2)))))))
-        0 (choice-none _ (replicate 256 0) k 0 reach (peak-none k (known .few)) refl)
+    pub judged-polled : plane n 6 a t ≡ 0 → plane n 5 a lead ≡ 0 → (k : ℕ) → Indexed n k a → (b counts : List ℕ) → ((q : ℕ) → q < n → plane n 5 a q ≡ t + 2 → ⊥) →
+        Polled n (t + 2) (Beside t) a b counts →
+        (r : ℕ) → r ≡ choice (apart palette (plane n 0 a lead - 1)) counts k reach → Judged rule n t a b r
+    unfolding largeOf
+    judged-polled z y k known b counts fresh u r e =
+        let ne : t + 2 ≡ 0 → ⊥ = (λ x. omega arith) in
+        let right : (x : ℕ) → x < n → group x ≡ suc t → r ≡ code (fate (fates rule s) x) = (λ x l i. e ∙ polled-fate x l i z y k (known .below) b counts fresh u (known .few)) in
+        record {
+          kept = u .kept;
+          large = λ q l. elim (ℕ-discrete (plane n 5 a q) 0) [
+            | yes i ↦ (elim (ℕ-discrete (plane n 5 b q) 0) [ yes j ↦ rw (i, j) | no j ↦ absurd (large-was ne u q l j i) ])
+            | no i ↦ rw (ne-eqb (plane n 5 a q) 0 i, ne-eqb (plane n 5 b q) 0 (large-then ne u q l i))
+          ];
+          marks = λ q l. ⊎-elim inl (λ m. inr (m .0, (λ o. vote-decides lead lead-in lead-label z y k (known .below) b counts fresh u q l (m .0) (sym (right lead lead-in lead-label) ∙ o)))) (u .marks q l);
+          done = λ x. absurd (x z);
+          little = λ x. y;
+          right = λ x. right;
+        }
+
+    -- the same with the ends and the paint as they were read
+    pub judged-at : (from to : ℕ) → from ≡ endOf n a t → to ≡ endOf n a (suc t) → plane n 6 a t ≡ 0 → plane n 5 a lead ≡ 0 → (k : ℕ) → Indexed n k a → (b counts : List ℕ) → ((q : ℕ) → q < n → plane n 5 a q ≡ t + 2 → ⊥) →
+        Polled n (t + 2) (λ q. (i : ℕ) × (from ≤ i) × (i < to) × (hood steps w (plane n 2 a i) q ≡ true)) a b counts →
+        (paint : ℕ) → paint ≡ plane n 0 a lead → (r : ℕ) → r ≡ choice (apart palette (paint - 1)) counts k reach → Judged rule n t a b r
+    judged-at from to ef et z y k known b counts fresh u paint ep r e =
+        judged-polled z y k known b counts fresh (rw (ef, et) at u) r (rw ep at e)
+
+    -- no neighbour is large: the poll would change nothing
+    pub judged-silent : (from to : ℕ) → from ≡ endOf n a t → to ≡ endOf n a (suc t) → plane n 6 a t ≡ 0 → plane n 5 a lead ≡ 0 → (k : ℕ) → Indexed n k a → ((q : ℕ) → q < n → plane n 5 a q ≡ t + 2 → ⊥) →
+        ((i : ℕ) → from ≤ i → i < to → (q : ℕ) → eight w (plane n 2 a i) q ≡ true → plane n 5 a q ≡ 0) → Judged rule n t a a 0
+    judged-silent from to ef et z y k known fresh none =
+        judged-at from to ef et z y k known a (replicate 256 0) fresh
+        (polled-still n (t + 2) (λ x. omega arith) a (replicate 256 0) (tally-new n (t + 2) a fresh)
+        (λ q l b large. absurd (large (none (b .0) (b .1) (b .2) q (hood-in h w steps (board .ways) (plane n 2 a (b .0)) q l (b .3))))))
+        (plane n 0 a lead) refl 0 (choice-none _ (replicate 256 0) k 0 reach (peak-none k (known .few)) refl)

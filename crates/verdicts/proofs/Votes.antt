@@ -13,76 +13,82 @@ use lib.Dec.{eqb}
 use lib.ListN.{length, getD, set, length-set, replicate, length-replicate, getD-replicate}
 use lib.Seq.{getD-set-same, getD-set-other}
 use Rattle.base.specs.Places.{count}
-use Rattle.base.proofs.Counting.{clash, left, eqb-yes, yes-eqb, count-same, count-insert, count-le}
+use Rattle.base.proofs.Counting.{clash, left, eqb-yes, yes-eqb, count-same, count-insert, count-le, count-none}
 use Rattle.grid.specs.Planes.{plane}
 use Rattle.grid.specs.Steps.{hood}
 use Rattle.grid.proofs.Places.{hop, some-inj, none-some, hood-sound, hood-complete}
 use Rattle.grid.proofs.Planes.{plane-same, plane-else, plane-other}
-use Rattle.verdicts.specs.Polling.{Desk, big, Kept, ballot, Tallied, Polled}
-use Rattle.verdicts.proofs.Regions.{count-none}
-use Rattle.verdicts.proofs.Desks.{kept-none, kept-and, kept-store, desk-big}
+use Rattle.verdicts.specs.Polling.{ballot, Tallied, Kept, Polled}
 
 -- a count is at most the number of cells
 pub tally-le : {n m : ℕ} {work counts : List ℕ} → Tallied n work m counts → (c : ℕ) → c < 256 → getD counts c 0 ≤ n
 tally-le {n = n} t c l = rw (t .votes c l) (count-le n _)
 
--- before the first vote
-pub tally-start : (n m : ℕ) (a : List ℕ) → ((q : ℕ) → q < n → plane n 5 a q < m) → Tallied n a m (replicate 256 0)
-unfolding ballot
-tally-start n m a fresh = record {
-  size = length-replicate {A = ℕ} 256 0;
-  votes = λ c l. getD-replicate 256 c 0 0 l ∙ sym (count-same n (ballot n a m c) (λ q. false)
-      (λ q h y. let e : plane n 5 a q ≡ m = eqb-yes (left (eqb (plane n 5 a q) m) (eqb (plane n 0 a q) (c + 1)) y) in absurd (omega (arith, fresh q h)))
-      (λ q h y. clash y refl) ∙ count-none n);
-}
+-- ---- what a poll keeps
 
-module _ (n limit m : ℕ) where
+pub kept-none : (n : ℕ) (a : List ℕ) → Kept n a a
+kept-none n a = record { len = refl; same = λ j q l h. refl }
+
+pub kept-and : {n : ℕ} {a b c : List ℕ} → Kept n a b → Kept n b c → Kept n a c
+kept-and u v = record { len = v .len ∙ u .len; same = λ j q l h. v .same j q l h ∙ u .same j q l h }
+
+kept-store : (n p i v : ℕ) (a : List ℕ) → i ≡ 5 * n + p → p < n → Kept n a (set a i v)
+kept-store n p i v a e h = record { len = length-set a i v; same = λ k q z lq. plane-other n 5 p i a v e k q z h lq }
+
+-- a place is large after a poll exactly if it was
+module _ {n m : ℕ} {A : ℕ → Type 0} {a b counts : List ℕ} (some : m ≡ 0 → ⊥) (u : Polled n m A a b counts) where
+  pub large-then : (q : ℕ) → q < n → (plane n 5 a q ≡ 0 → ⊥) → plane n 5 b q ≡ 0 → ⊥
+  large-then q h z e = ⊎-elim (λ f. z (sym f ∙ e)) (λ f. some (sym (f .0) ∙ e)) (u .marks q h)
+
+  pub large-was : (q : ℕ) → q < n → (plane n 5 b q ≡ 0 → ⊥) → plane n 5 a q ≡ 0 → ⊥
+  large-was q h z e = ⊎-elim (λ f. z (f ∙ e)) (λ f. f .2 e) (u .marks q h)
+
+-- ---- who is asked
+
+module _ (n m : ℕ) (nonzero : m ≡ 0 → ⊥) where
   -- whoever is asked has no vote or has voted
-  pub polled-still : {A : ℕ → Type 0} (a counts : List ℕ) → Tallied n a m counts → ((q : ℕ) → q < n → A q → big n limit a q ≡ true → plane n 5 a q ≡ m) → Polled n limit m A a a counts
+  pub polled-still : {A : ℕ → Type 0} (a counts : List ℕ) → Tallied n a m counts → ((q : ℕ) → q < n → A q → (plane n 5 a q ≡ 0 → ⊥) → plane n 5 a q ≡ m) → Polled n m A a a counts
   polled-still a counts t f = record {
     kept = kept-none n a;
-    rest = λ q h. refl;
     tally = t;
     stays = λ q h e. e;
     marks = λ q h. inl refl;
-    heard = f;
+    voted = f;
   }
 
   -- nobody is asked
-  pub polled-none : (a counts : List ℕ) → Tallied n a m counts → Polled n limit m (λ q. ⊥) a a counts
+  pub polled-none : (a counts : List ℕ) → Tallied n a m counts → Polled n m (λ q. ⊥) a a counts
   polled-none a counts t = polled-still a counts t (λ q h z. absurd z)
 
   -- these are asked, and then those
-  pub polled-and : {A B : ℕ → Type 0} {a b c : List ℕ} (counts counts′ : List ℕ) → ((q : ℕ) → q < n → big n limit b q ≡ big n limit a q) → Polled n limit m A a b counts → Polled n limit m B b c counts′ → Polled n limit m (λ q. A q ⊎ B q) a c counts′
-  polled-and {A} {B} {a} {b} {c} counts counts′ same u v = record {
+  pub polled-and : {A B : ℕ → Type 0} {a b c : List ℕ} (counts counts′ : List ℕ) → Polled n m A a b counts → Polled n m B b c counts′ → Polled n m (λ q. A q ⊎ B q) a c counts′
+  polled-and {A} {B} {a} {b} {c} counts counts′ u v = record {
     kept = kept-and (u .kept) (v .kept);
-    rest = λ q h. v .rest q h ∙ u .rest q h;
     tally = v .tally;
     stays = λ q h e. v .stays q h (u .stays q h e);
     marks = λ q h. ⊎-elim
         (λ e. ⊎-elim (λ f. inl (e ∙ f)) (λ f. inr (e ∙ f .0, inl (f .1), f .2)) (u .marks q h))
-        (λ e. inr (e .0, inr (e .1), sym (same q h) ∙ e .2)) (v .marks q h);
-    heard = λ q h y big. ⊎-elim (λ x. v .stays q h (u .heard q h x big)) (λ x. v .heard q h x (same q h ∙ big)) y;
+        (λ e. inr (e .0, inr (e .1), large-was nonzero u q h (e .2))) (v .marks q h);
+    voted = λ q h y big. ⊎-elim (λ x. v .stays q h (u .voted q h x big)) (λ x. v .voted q h x (large-then nonzero u q h big)) y;
   }
 
   -- the same cells, said otherwise
-  pub polled-same : {A B : ℕ → Type 0} {a b counts : List ℕ} → ((q : ℕ) → q < n → A q → B q) → ((q : ℕ) → q < n → B q → A q) → Polled n limit m A a b counts → Polled n limit m B a b counts
+  pub polled-same : {A B : ℕ → Type 0} {a b counts : List ℕ} → ((q : ℕ) → q < n → A q → B q) → ((q : ℕ) → q < n → B q → A q) → Polled n m A a b counts → Polled n m B a b counts
   polled-same f g u = record {
     kept = u .kept;
-    rest = u .rest;
     tally = u .tally;
     stays = u .stays;
     marks = λ q h. ⊎-elim inl (λ e. inr (e .0, f q h (e .1), e .2)) (u .marks q h);
-    heard = λ q h y. u .heard q h (g q h y);
+    voted = λ q h y. u .voted q h (g q h y);
   }
 
   module _ (q : ℕ) (lq : q < n) (a counts : List ℕ) (t : Tallied n a m counts) where
     -- q is asked, and has no vote or has voted
-    pub polled-silent : (big n limit a q ≡ true → plane n 5 a q ≡ m) → Polled n limit m (λ x. x ≡ q) a a counts
+    pub polled-silent : ((plane n 5 a q ≡ 0 → ⊥) → plane n 5 a q ≡ m) → Polled n m (λ x. x ≡ q) a a counts
     polled-silent f = polled-still a counts t (λ x h e b. rw e (f (rw e at b)))
 
     -- q is asked, and votes for c
-    module _ (c i : ℕ) (e : i ≡ 5 * n + q) (li : i < length a) (large : big n limit a q ≡ true) (free : plane n 5 a q ≡ m → ⊥)
+    module _ (c i : ℕ) (e : i ≡ 5 * n + q) (li : i < length a) (large : (plane n 5 a q ≡ 0 → ⊥)) (free : plane n 5 a q ≡ m → ⊥)
         (is : plane n 0 a q ≡ c + 1) (lc : c < 256) where
       abbrev after : List ℕ
       after = set a i m
@@ -91,7 +97,7 @@ module _ (n limit m : ℕ) where
       more = set counts c (getD counts c 0 + 1)
 
       kept : Kept n a after
-      kept = kept-store n 5 q i m a e (omega arith) lq
+      kept = kept-store n q i m a e lq
 
       here : plane n 5 after q ≡ m
       here = plane-same n 5 q i a m e li
@@ -101,7 +107,7 @@ module _ (n limit m : ℕ) where
 
       ballot-there : (d x : ℕ) → x < n → (x ≡ q → ⊥) → ballot n after m d x ≡ ballot n a m d x
       unfolding ballot
-      ballot-there d x h z = rw (there x z, kept .same 0 x (omega arith) h)
+      ballot-there d x h z = rw (there x z, kept .same 0 x (λ z. absurd (omega arith)) h)
 
       ballot-was : (d : ℕ) → ballot n a m d q ≡ false
       unfolding ballot
@@ -109,7 +115,7 @@ module _ (n limit m : ℕ) where
 
       ballot-is : (d : ℕ) → ballot n after m d q ≡ eqb (c + 1) (d + 1)
       unfolding ballot
-      ballot-is d = rw (eq-eqb (plane n 5 after q) m here, kept .same 0 q (omega arith) lq, is)
+      ballot-is d = rw (eq-eqb (plane n 5 after q) m here, kept .same 0 q (λ z. absurd (omega arith)) lq, is)
 
       counted : (d : ℕ) → d < 256 → getD more d 0 ≡ count n (ballot n after m d)
       counted d l = elim (ℕ-discrete d c) [ yes y ↦ one y | no z ↦ none z ]
@@ -128,22 +134,21 @@ module _ (n limit m : ℕ) where
               ∙ t .votes d l
               ∙ count-same n (ballot n a m d) (ballot n after m d) (λ x h y. k x h ∙ y) (λ x h y. sym (k x h) ∙ y)
 
-      pub polled-cast : Polled n limit m (λ x. x ≡ q) a after more
+      pub polled-cast : Polled n m (λ x. x ≡ q) a after more
       polled-cast = record {
         kept = kept;
-        rest = λ x h. plane-other n 5 q i a m e 6 x (λ z. absurd (omega arith)) lq h;
         tally = record { size = length-set counts c (getD counts c 0 + 1) ∙ t .size; votes = counted };
         stays = λ x h y. elim (ℕ-discrete x q) [ yes z ↦ absurd (free (rw z at y)) | no z ↦ there x z ∙ y ];
         marks = λ x h. elim (ℕ-discrete x q) [ yes z ↦ inr (rw z here, z, rw z large) | no z ↦ inl (there x z) ];
-        heard = λ x h y b. rw y here;
+        voted = λ x h y b. rw y here;
       }
 
   -- a step finds nobody, or a cell that is asked
   module _ {o : Option ℕ} {a counts : List ℕ} where
-    pub polled-off : o ≡ none → Tallied n a m counts → Polled n limit m (λ x. o ≡ some x) a a counts
+    pub polled-off : o ≡ none → Tallied n a m counts → Polled n m (λ x. o ≡ some x) a a counts
     polled-off e t = polled-same (λ q h z. absurd z) (λ q h z. none-some (sym e ∙ z)) (polled-none a counts t)
 
-    pub polled-on : {b : List ℕ} (q : ℕ) → o ≡ some q → Polled n limit m (λ x. x ≡ q) a b counts → Polled n limit m (λ x. o ≡ some x) a b counts
+    pub polled-on : {b : List ℕ} (q : ℕ) → o ≡ some q → Polled n m (λ x. x ≡ q) a b counts → Polled n m (λ x. o ≡ some x) a b counts
     polled-on q e u = polled-same (λ x h z. e ∙ ap some (sym z)) (λ x h z. some-inj (sym z ∙ e)) u
 
 -- ---- the neighbours of a place, step by step
@@ -152,21 +157,21 @@ module _ (n limit m : ℕ) where
 abbrev pub Reached : ℕ → ℕ → ℕ → ℕ → ℕ → Type 0
 Reached h w p k q = (i : ℕ) × (i < k) × (hop h w p i ≡ some q)
 
-module _ (h w steps limit m p : ℕ) where
-  pub reach-start : (a counts : List ℕ) → Tallied (h * w) a m counts → Polled (h * w) limit m (Reached h w p 0) a a counts
+module _ (h w steps m p : ℕ) (nonzero : m ≡ 0 → ⊥) where
+  pub reach-start : (a counts : List ℕ) → Tallied (h * w) a m counts → Polled (h * w) m (Reached h w p 0) a a counts
   reach-start a counts t =
-      polled-same (h * w) limit m (λ q l z. absurd z) (λ q l z. absurd (not-suc-le-zero (z .1))) (polled-none (h * w) limit m a counts t)
+      polled-same (h * w) m nonzero (λ q l z. absurd z) (λ q l z. absurd (not-suc-le-zero (z .1))) (polled-none (h * w) m nonzero a counts t)
 
-  pub reach-on : {a b c : List ℕ} (counts counts′ : List ℕ) (k : ℕ) → Desk h w steps a → Polled (h * w) limit m (Reached h w p k) a b counts → Polled (h * w) limit m (λ q. hop h w p k ≡ some q) b c counts′ → Polled (h * w) limit m (Reached h w p (k + 1)) a c counts′
-  reach-on {a} {b} counts counts′ k d u v =
-      polled-same (h * w) limit m
+  pub reach-on : {a b c : List ℕ} (counts counts′ : List ℕ) (k : ℕ) → Polled (h * w) m (Reached h w p k) a b counts → Polled (h * w) m (λ q. hop h w p k ≡ some q) b c counts′ → Polled (h * w) m (Reached h w p (k + 1)) a c counts′
+  reach-on {a} {b} counts counts′ k u v =
+      polled-same (h * w) m nonzero
       (λ q l. ⊎-elim (λ z. (z .0, omega (arith, z .1), z .2)) (λ z. (k, omega arith, z)))
       (λ q l z. elim (ℕ-discrete (z .0) k) [ yes e ↦ inr (rw e at (z .2)) | no e ↦ inl (z .0, omega (arith, z .1), z .2) ])
-      (polled-and (h * w) limit m counts counts′ (desk-big h w steps a d b (u .kept) limit) u v)
+      (polled-and (h * w) m nonzero counts counts′ u v)
 
-  pub reach-all : {a b counts : List ℕ} (k : ℕ) → (steps ≡ 4) ⊎ (steps ≡ 8) → steps ≡ k → Polled (h * w) limit m (Reached h w p k) a b counts → Polled (h * w) limit m (λ q. hood steps w p q ≡ true) a b counts
+  pub reach-all : {a b counts : List ℕ} (k : ℕ) → (steps ≡ 4) ⊎ (steps ≡ 8) → steps ≡ k → Polled (h * w) m (Reached h w p k) a b counts → Polled (h * w) m (λ q. hood steps w p q ≡ true) a b counts
   reach-all k ok e u =
-      polled-same (h * w) limit m
+      polled-same (h * w) m nonzero
       (λ q l z. hood-sound steps ok h w p (z .0) q (omega (arith, z .1)) (z .2))
       (λ q l y. let z = hood-complete steps ok h w p q l y in (z .0, omega (arith, z .1), z .2)) u
 
@@ -176,14 +181,25 @@ module _ (h w steps limit m p : ℕ) where
 abbrev pub Beside : ℕ → ℕ → ℕ → List ℕ → ℕ → ℕ → ℕ → Type 0
 Beside h w steps a from to q = (i : ℕ) × (from ≤ i) × (i < to) × (hood steps w (plane (h * w) 2 a i) q ≡ true)
 
-module _ (h w steps limit m from : ℕ) where
-  pub beside-start : (a counts : List ℕ) → Tallied (h * w) a m counts → Polled (h * w) limit m (Beside h w steps a from from) a a counts
+module _ (h w steps m from : ℕ) (nonzero : m ≡ 0 → ⊥) where
+  pub beside-start : (a counts : List ℕ) → Tallied (h * w) a m counts → Polled (h * w) m (Beside h w steps a from from) a a counts
   beside-start a counts t =
-      polled-same (h * w) limit m (λ q l z. absurd z) (λ q l z. absurd (omega (arith, z .1, z .2))) (polled-none (h * w) limit m a counts t)
+      polled-same (h * w) m nonzero (λ q l z. absurd z) (λ q l z. absurd (omega (arith, z .1, z .2))) (polled-none (h * w) m nonzero a counts t)
 
-  pub beside-on : {a b c : List ℕ} (counts counts′ : List ℕ) (to p : ℕ) → from ≤ to → Desk h w steps a → p ≡ plane (h * w) 2 a to → Polled (h * w) limit m (Beside h w steps a from to) a b counts → Polled (h * w) limit m (λ q. hood steps w p q ≡ true) b c counts′ → Polled (h * w) limit m (Beside h w steps a from (to + 1)) a c counts′
-  beside-on {a} {b} counts counts′ to p le d e u v =
-      polled-same (h * w) limit m
+  pub beside-on : {a b c : List ℕ} (counts counts′ : List ℕ) (to p : ℕ) → from ≤ to → p ≡ plane (h * w) 2 a to → Polled (h * w) m (Beside h w steps a from to) a b counts → Polled (h * w) m (λ q. hood steps w p q ≡ true) b c counts′ → Polled (h * w) m (Beside h w steps a from (to + 1)) a c counts′
+  beside-on {a} {b} counts counts′ to p le e u v =
+      polled-same (h * w) m nonzero
       (λ q l. ⊎-elim (λ z. (z .0, z .1, omega (arith, z .2), z .3)) (λ z. (to, le, omega arith, rw e at z)))
       (λ q l z. elim (ℕ-discrete (z .0) to) [ yes f ↦ inr (rw (e, ← f) (z .3)) | no f ↦ inl (z .0, z .1, omega (arith, z .2), z .3) ])
-      (polled-and (h * w) limit m counts counts′ (desk-big h w steps a d b (u .kept) limit) u v)
+      (polled-and (h * w) m nonzero counts counts′ u v)
+
+-- ---- before the first vote
+
+pub tally-new : (n m : ℕ) (a : List ℕ) → ((q : ℕ) → q < n → plane n 5 a q ≡ m → ⊥) → Tallied n a m (replicate 256 0)
+unfolding ballot
+tally-new n m a fresh = record {
+  size = length-replicate {A = ℕ} 256 0;
+  votes = λ c l. getD-replicate 256 c 0 0 l ∙ sym (count-same n (ballot n a m c) (λ q. false)
+      (λ q h y. absurd (fresh q h (eqb-yes (left (eqb (plane n 5 a q) m) (eqb (plane n 0 a q) (c + 1)) y))))
+      (λ q h y. clash y refl) ∙ count-none n);
+}

@@ -1,3 +1,5 @@
 pub mod Choice
+pub mod Groups
 pub mod Polling
+pub mod Agreeing
 pub mod Judging

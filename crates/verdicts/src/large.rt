@@ -1,9 +1,11 @@
-// Regions of the work area: where their places end, and whether a large one may be beside a run of places.
+// Regions of the work area: where their places end, and whether a large cell may be beside a run of places, which is asked before a poll, since that costs more.
 ghost use mathlib.Core.Path.{_≡_};
-ghost use Prim.Native.Nat.{ℕ, _+_, _*_, _≤_, _<_};
+ghost use mathlib.Core.Bool.{true, false};
+ghost use Prim.Native.Nat.{ℕ, suc, _+_, _-_, _*_, _≤_, _<_};
 ghost use lib.ListN.{length};
+ghost use Rattle.rules.specs.Grid.{eight};
 ghost use Rattle.grid.specs.Planes.{plane, endOf};
-ghost use Rattle.verdicts.specs.Polling.{Ready, big, bigRow, bigNear, bigAround};
+ghost use Rattle.verdicts.specs.Groups.{Group};
 
 // Where the places of the regions up to a label end in the order.
 pub fn region_end(work: &[u32], n: usize, label: usize) -> u32
@@ -17,44 +19,41 @@ pub fn region_end(work: &[u32], n: usize, label: usize) -> u32
     work[3 * n + last]
 }
 
-// Whether the cell q lies in a region of at least `limit` cells.
-pub fn is_large(work: &[u32], n: usize, q: usize, limit: u32) -> bool
-    requires { ⌜ Ready n (now work) ⌝ }
-    requires { ⌜ q < n ⌝ }
-    ensures { λ r. ⌜ r ≡ big n limit (now (work .entry)) q ⌝ }
+// The number of places with the label at + 1.
+pub fn region_size(work: &[u32], n: usize, at: usize) -> u32
+    requires { ⌜ (8 * n ≤ length (now work)) × (n ≤ 264196) × Group n (now work) at ⌝ }
+    ensures { λ r. ⌜ r ≡ endOf n (now (work .entry)) (suc at) - endOf n (now (work .entry)) at ⌝ }
 {
-    let label = work[n + q] as usize;
-    if label == 0 {
-        return false;
-    }
-    let last = label - 1;
-    let from = region_end(work, n, last);
-    let to = region_end(work, n, label);
-    limit <= to - from
+    let from = region_end(work, n, at);
+    let next = at + 1;
+    let to = region_end(work, n, next);
+    to - from
 }
 
-// Whether one of the three cells from q on lies in a large region.
-fn large_in_row(work: &[u32], n: usize, q: usize, limit: u32) -> bool
-    requires { ⌜ Ready n (now work) ⌝ }
-    requires { ⌜ q + 2 < n ⌝ }
-    ensures { λ r. ⌜ r ≡ bigRow n limit (now (work .entry)) q ⌝ }
+// Whether one of the three cells from q on is large.
+fn large_in_row(work: &[u32], n: usize, q: usize) -> bool
+    requires { ⌜ (8 * n ≤ length (now work)) × (n ≤ 264196) × (q + 2 < n) ⌝ }
+    ensures { λ r. ⌜ (r ≡ false → (i : ℕ) → i < 3 → plane n 5 (now (work .entry)) (q + i) ≡ 0) ⌝ }
 {
-    if is_large(work, n, q, limit) {
+    let first = 5 * n + q;
+    if work[first] != 0 {
         return true;
     }
-    let next = q + 1;
-    if is_large(work, n, next, limit) {
+    let next = first + 1;
+    if work[next] != 0 {
         return true;
     }
-    let last = q + 2;
-    is_large(work, n, last, limit)
+    let last = first + 2;
+    if work[last] != 0 {
+        return true;
+    }
+    false
 }
 
-// Whether a cell of a large region may be beside the place p: one is near, or p is too near the first or last place to look.
-fn large_near(work: &[u32], n: usize, w: usize, p: usize, limit: u32) -> bool
-    requires { ⌜ Ready n (now work) ⌝ }
-    requires { ⌜ (p < n) × (w ≤ 514) ⌝ }
-    ensures { λ r. ⌜ r ≡ bigNear n w limit (now (work .entry)) p ⌝ }
+// Whether a large cell may be beside the place p: one is near, or p is too near the first or last place to look.
+fn large_near(work: &[u32], n: usize, w: usize, p: usize) -> bool
+    requires { ⌜ (8 * n ≤ length (now work)) × (n ≤ 264196) × (w ≤ 514) × (p < n) ⌝ }
+    ensures { λ r. ⌜ (r ≡ false → (q : ℕ) → eight w p q ≡ true → plane n 5 (now (work .entry)) q ≡ 0) ⌝ }
 {
     let reach = w + 1;
     if p < reach {
@@ -65,26 +64,26 @@ fn large_near(work: &[u32], n: usize, w: usize, p: usize, limit: u32) -> bool
         return true;
     }
     let above = p - reach;
-    if large_in_row(work, n, above, limit) {
+    if large_in_row(work, n, above) {
         return true;
     }
     let before = p - 1;
-    if large_in_row(work, n, before, limit) {
+    if large_in_row(work, n, before) {
         return true;
     }
     let below = far - 2;
-    large_in_row(work, n, below, limit)
+    large_in_row(work, n, below)
 }
 
-// Whether a cell of a large region may be beside one of the places from `from` on, `many` of them.
-pub fn large_around(work: &[u32], n: usize, w: usize, from: usize, many: usize, limit: u32) -> bool
-    requires { ⌜ Ready n (now work) ⌝ }
-    requires { ⌜ (w ≤ 514) × (from + many ≤ n) × ((i : ℕ) → i < many → plane n 2 (now work) (from + i) < n) ⌝ }
-    ensures { λ r. ⌜ r ≡ bigAround n w limit (now (work .entry)) from many ⌝ }
+// Whether a large cell may be beside one of the places from `from` on and before `to` of the order.
+pub fn large_around(work: &[u32], n: usize, w: usize, from: usize, to: usize) -> bool
+    requires { ⌜ (8 * n ≤ length (now work)) × (n ≤ 264196) × (w ≤ 514) × (from ≤ to) × (to ≤ n) ⌝ }
+    requires { ⌜ ((i : ℕ) → from ≤ i → i < to → plane n 2 (now work) i < n) ⌝ }
+    ensures { λ r. ⌜ (r ≡ false → (i : ℕ) → from ≤ i → i < to → (q : ℕ) → eight w (plane n 2 (now (work .entry)) i) q ≡ true → plane n 5 (now (work .entry)) q ≡ 0) ⌝ }
 {
-    for i in 0..many {
-        let p = work[2 * n + from + i] as usize;
-        if large_near(work, n, w, p, limit) {
+    for i in from..to {
+        let p = work[2 * n + i] as usize;
+        if large_near(work, n, w, p) {
             return true;
         }
     }

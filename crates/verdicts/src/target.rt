@@ -4,7 +4,8 @@ use color::cielab::entry;
 ghost use mathlib.Core.Path.{_≡_};
 ghost use Prim.Native.Nat.{_≤_, _<_};
 ghost use lib.ListN.{length};
-ghost use Rattle.verdicts.specs.Choice.{apart, peak, nearer, nearest, choice};
+ghost use Rattle.verdicts.specs.Choice.{apart, peak, nearer, nearest, decision, choice};
+ghost use Rattle.verdicts.specs.declared.target.Target.the-variants.{Index};
 
 // The index that a region may take, and its distance from the region's own.
 pub enum Target {
@@ -54,6 +55,26 @@ fn nearest(counts: &[u32; 256], m: u32, palette: &[f64], k: usize, own: usize) -
     best
 }
 
+// What a target c at the distance d gives a region: c + 2 it takes the index c, 1 it is frozen.
+fn decide(c: usize, d: f64, max_delta: f64) -> u32
+    requires { ⌜ c < 256 ⌝ }
+    ensures { λ r. ⌜ r ≡ decision (Index c d) «max_delta» ⌝ }
+{
+    if d < max_delta {
+        return c as u32 + 2;
+    }
+    1
+}
+
+// What becomes of a region of the index `own` whose votes are all for c.
+pub fn only_choice(palette: &[f64], own: usize, c: usize, max_delta: f64) -> u32
+    requires { ⌜ (own < 256) × (c < 256) × (length (now palette) ≡ 768) ⌝ }
+    ensures { λ r. ⌜ r ≡ decision (Index c (apart (now (palette .entry)) own c)) «max_delta» ⌝ }
+{
+    let d = distance(entry(palette, own), entry(palette, c));
+    decide(c, d, max_delta)
+}
+
 // What becomes of a region of the index `own` with these votes: 0 it stays, 1 it is frozen, c + 2 it takes the index c.
 pub fn choice(counts: &[u32; 256], palette: &[f64], k: usize, own: usize, max_delta: f64) -> u32
     requires { ⌜ (k ≤ 256) × (own < k) × (length (now palette) ≡ 768) ⌝ }
@@ -66,8 +87,5 @@ pub fn choice(counts: &[u32; 256], palette: &[f64], k: usize, own: usize, max_de
     let Target::Index(c, d) = nearest(counts, m, palette, k, own) else {
         return 0;
     };
-    if d < max_delta {
-        return c as u32 + 2;
-    }
-    1
+    decide(c, d, max_delta)
 }

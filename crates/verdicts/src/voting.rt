@@ -1,30 +1,30 @@
-// The votes on a region: each cell of a large region beside it votes once, for its own index.
-use crate::large::is_large;
+// The votes on a region: each large cell beside it votes once, for its own index.
 use grid::OFFSETS8;
 use grid::Step;
-use grid::neighbour;
+use grid::on_border;
+use grid::reached;
 ghost use mathlib.Core.Path.{_≡_};
-ghost use mathlib.Core.Bool.{true};
+ghost use mathlib.Core.Bool.{true, false};
 ghost use mathlib.Core.Option.{some};
-ghost use Prim.Native.Nat.{ℕ, _*_, _≤_, _<_};
-ghost use lib.IntN.{pos, negsuc};
-ghost use lib.Signed.{leZ};
+ghost use Prim.Native.Nat.{ℕ, _*_, _/_, _%_, _≤_, _<_};
 ghost use Rattle.rules.specs.Grid.{stepTo};
-ghost use Rattle.grid.specs.Steps.{hood};
+ghost use Rattle.grid.specs.Steps.{hood, Single, Inner};
 ghost use Rattle.grid.specs.Planes.{plane};
-ghost use Rattle.verdicts.specs.Polling.{Desk, Ready, Tallied, Polled};
+ghost use Rattle.verdicts.specs.Groups.{CanVote, GroupedSheet};
+ghost use Rattle.verdicts.specs.Polling.{Tallied, Polled};
 
-// The cell q votes, if it is of a large region and has not voted.
-fn ask(work: &mut [u32], n: usize, q: usize, limit: u32, mark: u32, counts: &mut [u32; 256])
-    requires { ⌜ Ready n (now work) ⌝ }
-    requires { ⌜ q < n ⌝ }
+// The cell q votes, if it is large and has not voted.
+fn ask(work: &mut [u32], n: usize, q: usize, mark: u32, counts: &mut [u32; 256])
+    requires { ⌜ CanVote n (now work) ⌝ }
+    requires { ⌜ (q < n) × (0 < mark) ⌝ }
     requires { ⌜ Tallied n (now work) mark (now counts) ⌝ }
-    ensures { λ r. ⌜ Polled n limit mark (λ x. x ≡ q) (now (work .entry)) (now (work .exit)) (now (counts .exit)) ⌝ }
+    ensures { λ r. ⌜ Polled n mark (λ x. x ≡ q) (now (work .entry)) (now (work .exit)) (now (counts .exit)) ⌝ }
 {
-    if work[5 * n + q] == mark {
+    let last = work[5 * n + q];
+    if last == 0 {
         return;
     }
-    if !is_large(work, n, q, limit) {
+    if last == mark {
         return;
     }
     let paint = work[q] as usize;
@@ -33,30 +33,29 @@ fn ask(work: &mut [u32], n: usize, q: usize, limit: u32, mark: u32, counts: &mut
     counts[c] += 1;
 }
 
-// The cell that a step finds from row y and column x votes.
+// The cell that a step from p finds votes.
 fn vote(
     work: &mut [u32],
     h: usize,
     w: usize,
-    y: usize,
-    x: usize,
+    p: usize,
     dy: i32,
     dx: i32,
-    limit: u32,
+    border: bool,
     mark: u32,
     counts: &mut [u32; 256],
 )
-    requires { ⌜ Ready (h * w) (now work) ⌝ }
-    requires { ⌜ (y < h) × (x < w) × (h ≤ 514) × (w ≤ 514) ⌝ }
-    requires { ⌜ (leZ (negsuc 1) dy ≡ true) × (leZ dy (pos 2) ≡ true) × (leZ (negsuc 1) dx ≡ true) × (leZ dx (pos 2) ≡ true) ⌝ }
+    requires { ⌜ CanVote (h * w) (now work) ⌝ }
+    requires { ⌜ (p < h * w) × (h ≤ 514) × (w ≤ 514) × (0 < mark) ⌝ }
+    requires { ⌜ Single dy × Single dx × (border ≡ false → Inner h w p) ⌝ }
     requires { ⌜ Tallied (h * w) (now work) mark (now counts) ⌝ }
-    ensures { λ r. ⌜ Polled (h * w) limit mark (λ q. stepTo h w y x dy dx ≡ some q) (now (work .entry)) (now (work .exit)) (now (counts .exit)) ⌝ }
+    ensures { λ r. ⌜ Polled (h * w) mark (λ q. stepTo h w (p / w) (p % w) dy dx ≡ some q) (now (work .entry)) (now (work .exit)) (now (counts .exit)) ⌝ }
 {
-    let Step::Cell(q) = neighbour(y, x, dy, dx, h, w) else {
+    let Step::Cell(q) = reached(p, dy, dx, border, h, w) else {
         return;
     };
     let n = h * w;
-    ask(work, n, q, limit, mark, counts);
+    ask(work, n, q, mark, counts);
 }
 
 // The neighbours of the cell p vote.
@@ -66,25 +65,23 @@ fn vote_all(
     w: usize,
     steps: usize,
     p: usize,
-    limit: u32,
     mark: u32,
     counts: &mut [u32; 256],
 )
-    requires { ⌜ Desk h w steps (now work) ⌝ }
-    requires { ⌜ p < h * w ⌝ }
+    requires { ⌜ GroupedSheet h w steps (now work) ⌝ }
+    requires { ⌜ (p < h * w) × (0 < mark) ⌝ }
     requires { ⌜ Tallied (h * w) (now work) mark (now counts) ⌝ }
-    ensures { λ r. ⌜ Polled (h * w) limit mark (λ q. hood steps w p q ≡ true) (now (work .entry)) (now (work .exit)) (now (counts .exit)) ⌝ }
+    ensures { λ r. ⌜ Polled (h * w) mark (λ q. hood steps w p q ≡ true) (now (work .entry)) (now (work .exit)) (now (counts .exit)) ⌝ }
 {
-    let y = p / w;
-    let x = p % w;
+    let border = on_border(p, h, w);
     let offsets = OFFSETS8;
     for k in 0..steps {
         let o = offsets[k];
-        vote(work, h, w, y, x, o[0], o[1], limit, mark, counts);
+        vote(work, h, w, p, o[0], o[1], border, mark, counts);
     }
 }
 
-// The neighbours of the places from `from` on and before `to` vote.
+// The neighbours of the places from `from` on and before `to` of the order vote.
 pub fn poll(
     work: &mut [u32],
     h: usize,
@@ -92,18 +89,17 @@ pub fn poll(
     steps: usize,
     from: usize,
     to: usize,
-    limit: u32,
     mark: u32,
     counts: &mut [u32; 256],
 )
-    requires { ⌜ Desk h w steps (now work) ⌝ }
-    requires { ⌜ (from ≤ to) × (to ≤ h * w) × ((i : ℕ) → i < to → plane (h * w) 2 (now work) i < h * w) ⌝ }
+    requires { ⌜ GroupedSheet h w steps (now work) ⌝ }
+    requires { ⌜ (from ≤ to) × (to ≤ h * w) × (0 < mark) × ((i : ℕ) → from ≤ i → i < to → plane (h * w) 2 (now work) i < h * w) ⌝ }
     requires { ⌜ Tallied (h * w) (now work) mark (now counts) ⌝ }
-    ensures { λ r. ⌜ Polled (h * w) limit mark (λ q. (i : ℕ) × (from ≤ i) × (i < to) × (hood steps w (plane (h * w) 2 (now (work .entry)) i) q ≡ true)) (now (work .entry)) (now (work .exit)) (now (counts .exit)) ⌝ }
+    ensures { λ r. ⌜ Polled (h * w) mark (λ q. (i : ℕ) × (from ≤ i) × (i < to) × (hood steps w (plane (h * w) 2 (now (work .entry)) i) q ≡ true)) (now (work .entry)) (now (work .exit)) (now (counts .exit)) ⌝ }
 {
     let n = h * w;
     for i in from..to {
         let p = work[2 * n + i] as usize;
-        vote_all(work, h, w, steps, p, limit, mark, counts);
+        vote_all(work, h, w, steps, p, mark, counts);
     }
 }

@@ -1,38 +1,71 @@
 -- `verdicts::verdict`, way out by way out. Assumes nothing.
-use Prim.Native.Nat.{ℕ, _+_, _*_, _≤_, _<_}
-use mathlib.Core.Path.{sym, _∙_}
+use Prim.Native.Nat.{ℕ, suc, _+_, _*_, _≤_, _<_}
+use mathlib.Core.Path.{_≡_, sym, ap, _∙_}
+use native.Mathlib.Numerals.{add-one}
 use native.Mathlib.Omega.{arith}
 use borrow.Author.Needs.{needs}
 use borrow.Author.Tests.{not-true}
-use Rattle.verdicts.proofs.Desks.{desk-ready}
-use Rattle.verdicts.proofs.Votes.{tally-start}
-use Rattle.verdicts.proofs.Verdicts.{Run, run-at, judged-spared, judged-polled, judged-silent, in-range}
+use lib.ListN.{length, getD}
+use Rattle.grid.specs.Planes.{plane, endOf}
+use Rattle.grid.proofs.Places.{area}
+use Rattle.grid.proofs.Planes.{plane-read}
+use Rattle.verdicts.proofs.Votes.{tally-new}
+use Rattle.verdicts.proofs.Agrees.{OnePaint, one-paint}
+use Rattle.verdicts.proofs.Verdicts.{paints, judged-done, judged-big, judged-at, judged-silent, judged-agreed}
 use Rattle.verdicts.proofs.verdict.Statement.{statement}
 use Rattle.verdicts.proofs.verdict.Tie as tie
+
+-- the sizes
+pub record Sizes (s : tie.Start) : Type 0 where
+  pub few : s .args .h * s .args .w ≤ 264196
+  pub room : 8 * (s .args .h * s .args .w) ≤ length (s .args .work .now)
+  pub label : s .args .at < s .args .h * s .args .w
+
+sizes : (s : tie.Start) → Sizes s
+sizes s = record { few = area _ _ (s .pre .0 .0 .rows) (s .pre .0 .0 .cols); room = s .pre .0 .0 .room; label = s .pre .0 .1 .label }
 
 mul-n : tie.Need-mul-n
 mul-n c = search needs
 
-few-labels : (c : tie.Start) → (c .args .at < c .args .h * c .args .w) × (c .args .h * c .args .w ≤ 264196)
-few-labels c = in-range (c .args .h) (c .args .w) (c .args .steps) (c .args .work .now) (c .pre .0) (c .args .at) (c .pre .1 .1 .0)
+mul-if1 : tie.Need-mul-if1
+mul-if1 c = search needs
+
+add-if1 : tie.Need-add-if1
+add-if1 c = search needs
+
+mul-if1-2 : tie.Need-mul-if1-2
+mul-if1-2 c = search needs
+
+slice-read-if1 : tie.Need-slice-read-if1
+slice-read-if1 c = search needs
+
+-- what is read is the group's number
+number-is : (s : tie.Start) → getD (s .args .work .now) (6 * (s .args .h * s .args .w) + s .args .at) 0 ≡ plane (s .args .h * s .args .w) 6 (s .args .work .now) (s .args .at)
+number-is s = plane-read (s .args .h * s .args .w) 6 (s .args .at) (6 * (s .args .h * s .args .w) + s .args .at) (s .args .work .now) (omega arith)
+
+returns : tie.Need-returns
+returns c =
+    let s = c .before .before .before .before in
+    judged-done (s .args .h) (s .args .w) (s .args .steps) (s .args .limit) (s .args .palette .now) (s .args .max-delta) (s .args .work .now) (s .pre .0 .0) (s .pre .1 .1 .0) (s .args .at) (s .pre .0 .1)
+    (λ e. c .if1 .taken (number-is s ∙ e))
 
 add-label : tie.Need-add-label
-add-label c = omega (arith, few-labels (c .before .before))
+add-label c = search needs
 
 region-end-requires : tie.Need-region-end-requires
-region-end-requires c κs = let s = c .before .before .before in omega (arith, few-labels s, s .pre .0 .room)
+region-end-requires c κs = search needs
 
 cast-from : tie.Need-cast-from
 cast-from c = search needs
 
 region-end-requires-2 : tie.Need-region-end-requires-2
-region-end-requires-2 c κs = let s = c .before .before .before .before .before in omega (arith, few-labels s, s .pre .0 .room)
+region-end-requires-2 c κs = search needs
 
 cast-to : tie.Need-cast-to
 cast-to c = search needs
 
 abbrev start : tie.After-region-end2 → tie.Start
-start c = c .before .before .before .before .before .before
+start c = c .before .before .before .before .before .before .before .before
 
 abbrev from : tie.After-region-end2 → ℕ
 from c = c .before .before .region-end .result
@@ -40,121 +73,294 @@ from c = c .before .before .region-end .result
 abbrev to : tie.After-region-end2 → ℕ
 to c = c .region-end2 .result
 
-run : (c : tie.After-region-end2) → Run (start c .args .h) (start c .args .w) (start c .args .steps) (start c .args .work .now) (start c .args .at) (from c) (to c)
+-- the group's places stand from `from` on and before `to`; the first is read
+pub record Run (c : tie.After-region-end2) : Type 0 where
+  pub sizes : Sizes (start c)
+  pub from-is : from c ≡ endOf (start c .args .h * start c .args .w) (start c .args .work .now) (start c .args .at)
+  pub to-is : to c ≡ endOf (start c .args .h * start c .args .w) (start c .args .work .now) (suc (start c .args .at))
+  pub some : from c < to c
+  pub end : to c ≤ start c .args .h * start c .args .w
+  pub is : getD (start c .args .work .now) (2 * (start c .args .h * start c .args .w) + from c) 0 ≡ plane (start c .args .h * start c .args .w) 2 (start c .args .work .now) (endOf (start c .args .h * start c .args .w) (start c .args .work .now) (start c .args .at))
+  pub first : getD (start c .args .work .now) (2 * (start c .args .h * start c .args .w) + from c) 0 < start c .args .h * start c .args .w
+
+run : (c : tie.After-region-end2) → Run c
 run c =
     let s = start c in
-    run-at (s .args .h) (s .args .w) (s .args .steps) (s .args .work .now) (s .pre .0) (s .args .at) (s .pre .1 .1 .0) (from c) (to c)
-    (c .before .before .region-end .ensures) (c .region-end2 .ensures)
+    let n = s .args .h * s .args .w in
+    let a = s .args .work .now in
+    let g = s .pre .0 .1 in
+    let f = c .before .before .region-end .ensures in
+    let t = c .region-end2 .ensures ∙ ap (endOf n a) (add-one (s .args .at)) in
+    let e = plane-read n 2 (from c) (2 * n + from c) a (omega arith) ∙ ap (plane n 2 a) f in
+    record {
+      sizes = sizes s;
+      from-is = f;
+      to-is = t;
+      some = omega (arith, f, t, g .some);
+      end = omega (arith, t, g .end);
+      is = e;
+      first = rw e (g .places (endOf n a (s .args .at)) (omega arith) (g .some) .0);
+    }
 
-sub-many : tie.Need-sub-many
-sub-many c = omega (arith, run c .some)
+mul-first : tie.Need-mul-first
+mul-first c = search needs
 
-spared-requires : tie.Need-spared-requires
-spared-requires c κs =
-    let e = c .before in
-    let r = run e in
-    (r .room, omega (arith, r .some, r .end), (λ i l. r .places (from e + i) (omega arith)))
+add-first : tie.Need-add-first
+add-first c = search needs
+
+mul-first-2 : tie.Need-mul-first-2
+mul-first-2 c = search needs
+
+slice-read-first : tie.Need-slice-read-first
+slice-read-first c = let r = run (c .before) in omega (arith, r, r .sizes)
+
+cast-first : tie.Need-cast-first
+cast-first c = let r = run (c .before) in omega (arith, r, r .sizes)
+
+mul-if2 : tie.Need-mul-if2
+mul-if2 c = search needs
+
+add-if2 : tie.Need-add-if2
+add-if2 c = let r = run (c .before) in omega (arith, r, r .sizes)
+
+mul-if2-2 : tie.Need-mul-if2-2
+mul-if2-2 c = let r = run (c .before) in omega (arith, r, r .sizes)
+
+slice-read-if2 : tie.Need-slice-read-if2
+slice-read-if2 c = let r = run (c .before .before) in omega (arith, r, r .sizes)
 
 same-length : tie.Need-same-length
 same-length c = search needs
 
-returns : tie.Need-returns
-returns c =
-    let f = c .before in
-    let e = f .before .before in
-    let s = start e in
-    judged-spared (s .args .h) (s .args .w) (s .args .steps) (s .args .work .now) (s .pre .0) (s .args .at) (s .pre .1 .1 .0) (from e) (to e)
-    (e .before .before .region-end .ensures) (e .region-end2 .ensures) (s .args .limit) (s .args .palette .now) (s .args .max-delta) (s .pre .1 .1 .1)
-    (sym (c .if1 .taken) ∙ f .spared .ensures)
+-- what is read is whether the first place is large
+large-is : (c : tie.After-region-end2) → let s = start c in let n = s .args .h * s .args .w in
+    getD (s .args .work .now) (5 * n + getD (s .args .work .now) (2 * n + from c) 0) 0 ≡ plane n 5 (s .args .work .now) (plane n 2 (s .args .work .now) (endOf n (s .args .work .now) (s .args .at)))
+large-is c =
+    let s = start c in
+    let n = s .args .h * s .args .w in
+    plane-read n 5 (getD (s .args .work .now) (2 * n + from c) 0) (5 * n + getD (s .args .work .now) (2 * n + from c) 0) (s .args .work .now) (omega arith) ∙ ap (plane n 5 (s .args .work .now)) (run c .is)
 
-abbrev found : tie.Else1 → tie.After-region-end2
+returns-2 : tie.Need-returns-2
+returns-2 c =
+    let e = c .before .before .before in
+    let s = start e in
+    judged-big (s .args .h) (s .args .w) (s .args .steps) (s .args .limit) (s .args .palette .now) (s .args .max-delta) (s .args .work .now) (s .pre .0 .0) (s .pre .1 .1 .0) (s .args .at) (s .pre .0 .1)
+    (λ z. c .if2 .taken (large-is e ∙ z))
+
+abbrev found : tie.Else2 → tie.After-region-end2
 found c = c .before .before .before
+
+-- the group has no number
+unnumbered : (c : tie.After-region-end2) → plane (start c .args .h * start c .args .w) 6 (start c .args .work .now) (start c .args .at) ≡ 0
+unnumbered c = sym (number-is (start c)) ∙ c .before .before .before .before .if1 .left
+
+-- and its first place is not large
+little : (c : tie.Else2) → let s = start (found c) in let n = s .args .h * s .args .w in plane n 5 (s .args .work .now) (plane n 2 (s .args .work .now) (endOf n (s .args .work .now) (s .args .at))) ≡ 0
+little c = sym (large-is (found c)) ∙ c .if2 .left
+
+-- no cell has this group's mark
+fresh : (c : tie.Else2) → (q : ℕ) → q < start (found c) .args .h * start (found c) .args .w → plane (start (found c) .args .h * start (found c) .args .w) 5 (start (found c) .args .work .now) q ≡ start (found c) .args .at + 2 → ⊥
+fresh c =
+    let e = found c in
+    let s = start e in
+    s .pre .1 .1 .1 (unnumbered e)
 
 large-around-requires : tie.Need-large-around-requires
 large-around-requires c κs =
     let e = found (c .before) in
     let s = start e in
     let r = run e in
-    (desk-ready (s .args .h) (s .args .w) (s .args .steps) (s .args .work .now) (s .pre .0), (s .pre .0 .cols, omega (arith, r .some, r .end), (λ i l. r .places (from e + i) (omega arith))))
+    let g = s .pre .0 .1 in (
+      (r .sizes .room, r .sizes .few, s .pre .0 .0 .cols, omega (arith, r .some), r .end),
+      (λ i l h. g .places i (omega (arith, r .from-is)) (omega (arith, r .to-is)) .0),
+    )
 
 same-length-2 : tie.Need-same-length-2
 same-length-2 c = search needs
 
-returns-2 : tie.Need-returns-2
-returns-2 c =
-    let a = c .before in
-    let e = a .before .before in
-    let f = found e in
-    let s = start f in
-    judged-silent (s .args .h) (s .args .w) (s .args .steps) (s .args .work .now) (s .pre .0) (s .args .at) (s .pre .1 .1 .0) (from f) (to f)
-    (f .before .before .region-end .ensures) (f .region-end2 .ensures) (s .args .limit) (s .args .palette .now) (s .args .max-delta) (s .pre .1 .1 .1)
-    (s .args .k) (s .pre .1 .0 .0) (sym (e .if1 .left) ∙ e .before .spared .ensures) (sym (a .large-around .ensures) ∙ not-true (a .large-around .result) (c .if2 .taken))
+returns-3 : tie.Need-returns-3
+returns-3 c =
+    let v = c .before in
+    let o = v .before .before in
+    let e = found o in
+    let s = start e in
+    let r = run e in
+    judged-silent (s .args .h) (s .args .w) (s .args .steps) (s .args .limit) (s .args .palette .now) (s .args .max-delta) (s .args .work .now) (s .pre .0 .0) (s .pre .1 .1 .0) (s .args .at) (s .pre .0 .1)
+    (from e) (to e) (r .from-is) (r .to-is) (unnumbered e) (little o) (s .args .k) (s .pre .1 .0 .0) (fresh o) (v .large-around .ensures (not-true (v .large-around .result) (c .if3 .taken)))
 
-abbrev unspared : tie.Else2 → tie.Else1
-unspared c = c .before .before .before
+abbrev voted : tie.Else3 → tie.Else2
+voted c = c .before .before .before
 
-own-index-requires : tie.Need-own-index-requires
-own-index-requires c κs = let r = run (found (unspared (c .before))) in (r .room, omega (arith, r .some, r .end), r .lead, r .painted)
+-- the first place's paint
+pub record Paint (c : tie.After-region-end2) : Type 0 where
+  pub is : getD (start c .args .work .now) (getD (start c .args .work .now) (2 * (start c .args .h * start c .args .w) + from c) 0) 0 ≡ plane (start c .args .h * start c .args .w) 0 (start c .args .work .now) (plane (start c .args .h * start c .args .w) 2 (start c .args .work .now) (endOf (start c .args .h * start c .args .w) (start c .args .work .now) (start c .args .at)))
+  pub some : 1 ≤ getD (start c .args .work .now) (getD (start c .args .work .now) (2 * (start c .args .h * start c .args .w) + from c) 0) 0
+  pub most : getD (start c .args .work .now) (getD (start c .args .work .now) (2 * (start c .args .h * start c .args .w) + from c) 0) 0 ≤ start c .args .k
+  pub few : start c .args .k ≤ 256
+
+paint : (c : tie.After-region-end2) → Paint c
+paint c =
+    let s = start c in
+    let n = s .args .h * s .args .w in
+    let a = s .args .work .now in
+    let g = s .pre .0 .1 in
+    let p = g .places (endOf n a (s .args .at)) (omega arith) (g .some) in
+    let e = plane-read n 0 (getD a (2 * n + from c) 0) (getD a (2 * n + from c) 0) a (omega arith) ∙ ap (plane n 0 a) (run c .is) in
+    record {
+      is = e;
+      some = rw e (s .pre .0 .0 .shown (plane n 2 a (endOf n a (s .args .at))) (p .0) (λ z. let x : suc (s .args .at) ≡ 0 = sym (p .1) ∙ z in omega arith));
+      most = rw e (s .pre .1 .0 .0 .below (plane n 2 a (endOf n a (s .args .at))) (p .0));
+      few = s .pre .1 .0 .0 .few;
+    }
+
+mul-paint : tie.Need-mul-paint
+mul-paint c = let r = run (found (voted c)) in omega (arith, r, r .sizes)
+
+slice-read-paint : tie.Need-slice-read-paint
+slice-read-paint c = let r = run (found (voted (c .before))) in omega (arith, r, r .sizes)
+
+cast-paint : tie.Need-cast-paint
+cast-paint c = omega (arith, paint (found (voted (c .before))))
+
+sub-own : tie.Need-sub-own
+sub-own c = omega (arith, paint (found (voted (c .before))))
+
+-- ---- all large neighbours have one paint
+
+abbrev own : tie.After-agreed → tie.Else3
+own c = c .before .before .before
+
+agreed-requires : tie.Need-agreed-requires
+agreed-requires c κs =
+    let e = found (voted (c .before .before)) in
+    let s = start e in
+    let r = run e in
+    (s .pre .0 .0, (omega (arith, r .some), r .end, (λ i l h. s .pre .0 .1 .places i (omega (arith, r .from-is)) (omega (arith, r .to-is)) .0)))
+
+cast-voted : tie.Need-cast-voted
+cast-voted c = search needs
+
+one : (c : tie.Then4) →
+    let e = found (voted (own (c .before))) in let s = start e in
+    OnePaint (s .args .h) (s .args .w) (s .args .steps) (s .pre .0 .0 .ways) (s .args .work .now) (paints (s .args .h) (s .args .w) (s .args .steps) (s .args .limit) (s .args .palette .now) (s .args .max-delta) (s .args .work .now) (s .pre .0 .0) (s .pre .1 .1 .0)) (from e) (to e) (c .before .agreed .result)
+one c =
+    let e = found (voted (own (c .before))) in
+    let s = start e in
+    one-paint (s .args .h) (s .args .w) (s .args .steps) (s .pre .0 .0 .ways) (s .args .work .now) _ (from e) (to e) (c .before .agreed .result) (omega (arith, run e .some)) (c .before .agreed .ensures) (c .if4 .taken)
+
+-- it is that of a place
+paint-below : (c : tie.Then4) → c .before .agreed .result ≤ start (found (voted (own (c .before)))) .args .k
+paint-below c = let s = start (found (voted (own (c .before)))) in let o = one c in omega (arith, o .same (o .place) (o .inside) (o .beside) (o .big), s .pre .1 .0 .0 .below (o .place) (o .inside))
+
+sub-c : tie.Need-sub-c
+sub-c c = omega (arith, c .if4 .taken)
+
+only-choice-requires : tie.Need-only-choice-requires
+only-choice-requires c κs =
+    let e = found (voted (own (c .before))) in
+    let p = paint e in
+    (omega (arith, p), omega (arith, paint-below c, p .few, c .if4 .taken), start e .pre .1 .0 .1)
+
+same-length-3 : tie.Need-same-length-3
+same-length-3 c = search needs
+
+returns-4 : tie.Need-returns-4
+returns-4 c =
+    let o = voted (own (c .before .before)) in
+    let e = found o in
+    let s = start e in
+    let r = run e in
+    judged-agreed (s .args .h) (s .args .w) (s .args .steps) (s .args .limit) (s .args .palette .now) (s .args .max-delta) (s .args .work .now) (s .pre .0 .0) (s .pre .1 .1 .0) (s .args .at) (s .pre .0 .1)
+    (from e) (to e) (r .from-is) (r .to-is) (unnumbered e) (little o) (s .args .k) (s .pre .1 .0 .0) (c .before .before .agreed .result) (one (c .before)) _ (paint e .is) _ (c .only-choice .ensures)
+
+-- ---- else they are polled
+
+abbrev asked : tie.Else4 → tie.Else2
+asked c = voted (own (c .before))
 
 cast-mark : tie.Need-cast-mark
-cast-mark c = omega (arith, few-labels (start (found (unspared (c .before .before)))))
+cast-mark c = omega (arith, run (found (asked c)) .sizes)
+
+add-mark : tie.Need-add-mark
+add-mark c = omega (arith, run (found (asked c)) .sizes)
 
 poll-requires : tie.Need-poll-requires
 poll-requires c κs =
-    let f = found (unspared (c .before .before .before .before)) in
-    let s = start f in
-    let r = run f in (
-      s .pre .0,
+    let o = asked (c .before .before) in
+    let e = found o in
+    let s = start e in
+    let r = run e in
+    let n = s .args .h * s .args .w in
+    let a = s .args .work .now in
+    let g = s .pre .0 .1 in (
+      s .pre .0 .0,
       (
-        (omega (arith, r .some), r .end, r .places),
-        tally-start (s .args .h * s .args .w) (s .args .at + 1) (s .args .work .now) (λ q l. omega (arith, s .pre .1 .1 .1 q l)),
+        (omega (arith, r .some), r .end, omega arith, (λ i l h. g .places i (omega (arith, r .from-is)) (omega (arith, r .to-is)) .0)),
+        tally-new n (s .args .at + 2) a (fresh o),
       ),
     )
 
 choice-requires : tie.Need-choice-requires
 choice-requires c κs =
-    let o = c .before .before .before .before .before .before in
-    let f = found (unspared (o .before .before)) in
-    let s = start f in
-    let k = s .pre .1 .0 .0 in
-    let r = run f in
-    (k .few, omega (arith, o .own-index .ensures, r .painted, k .below _ (r .lead)), s .pre .1 .0 .1)
+    let e = found (asked (c .before .before .before .before .before .before)) in
+    let p = paint e in
+    (p .few, omega (arith, p), start e .pre .1 .0 .1)
 
-same-length-3 : tie.Need-same-length-3
-same-length-3 c = search needs
+same-length-4 : tie.Need-same-length-4
+same-length-4 c = search needs
 
-returns-3 : tie.Need-returns-3
-returns-3 c =
-    let p = c .before .before .before .before in
-    let o = p .before .before .before in
-    let e = unspared (o .before .before) in
-    let f = found e in
-    let s = start f in
-    judged-polled (s .args .h) (s .args .w) (s .args .steps) (s .args .work .now) (s .pre .0) (s .args .at) (s .pre .1 .1 .0) (from f) (to f)
-    (f .before .before .region-end .ensures) (f .region-end2 .ensures) (s .args .limit) (s .args .palette .now) (s .args .max-delta) (s .pre .1 .1 .1)
-    (s .args .k) (s .pre .1 .0 .0) (sym (e .if1 .left) ∙ e .before .spared .ensures) _ _ (p .poll .ensures) _
-    (rw (o .own-index .ensures) at (c .choice .ensures))
+returns-5 : tie.Need-returns-5
+returns-5 c =
+    let k = c .before .before .before .before in
+    let o = asked (k .before .before .before) in
+    let e = found o in
+    let s = start e in
+    let r = run e in
+    judged-at (s .args .h) (s .args .w) (s .args .steps) (s .args .limit) (s .args .palette .now) (s .args .max-delta) (s .args .work .now) (s .pre .0 .0) (s .pre .1 .1 .0) (s .args .at) (s .pre .0 .1)
+    (from e) (to e) (r .from-is) (r .to-is) (unnumbered e) (little o) (s .args .k) (s .pre .1 .0 .0) _ _ (fresh o) (k .poll .ensures) _ (paint e .is) _ (c .choice .ensures)
 
 pub verdict-spec : {M : Type 1} → statement M
 verdict-spec =
     tie.close
     (tie.spec
     mul-n
+    mul-if1
+    add-if1
+    mul-if1-2
+    slice-read-if1
+    returns
     add-label
     region-end-requires
     cast-from
     region-end-requires-2
     cast-to
-    sub-many
-    spared-requires
+    mul-first
+    add-first
+    mul-first-2
+    slice-read-first
+    cast-first
+    mul-if2
+    add-if2
+    mul-if2-2
+    slice-read-if2
     same-length
-    returns
+    returns-2
     large-around-requires
     same-length-2
-    returns-2
-    own-index-requires
+    returns-3
+    mul-paint
+    slice-read-paint
+    cast-paint
+    sub-own
+    agreed-requires
+    cast-voted
+    sub-c
+    only-choice-requires
+    same-length-3
+    returns-4
     cast-mark
+    add-mark
     poll-requires
     choice-requires
-    same-length-3
-    returns-3)
+    same-length-4
+    returns-5)

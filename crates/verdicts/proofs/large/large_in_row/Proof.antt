@@ -1,53 +1,79 @@
 -- `verdicts::large::large_in_row`, cell by cell. Assumes nothing.
-use mathlib.Core.Path.{_≡_, sym, _∙_}
-use mathlib.Core.Bool.{false}
-use Rattle.verdicts.specs.Polling.{big, bigRow}
+use mathlib.Core.Path.{refl, sym, _∙_}
+use Prim.Native.Nat.{_+_, _*_}
+use native.Mathlib.Omega.{arith}
 use borrow.Author.Needs.{needs}
+use Rattle.base.proofs.Counting.{clash}
+use Rattle.grid.proofs.Planes.{plane-read}
+use Rattle.verdicts.proofs.Nearby.{row-small}
 use Rattle.verdicts.proofs.large.large_in_row.Statement.{statement}
 use Rattle.verdicts.proofs.large.large_in_row.Tie as tie
 
-is-large-requires : tie.Need-is-large-requires
-is-large-requires c κs = search needs
+mul-first : tie.Need-mul-first
+mul-first c = search needs
+
+add-first : tie.Need-add-first
+add-first c = search needs
+
+mul-if1 : tie.Need-mul-if1
+mul-if1 c = search needs
+
+shared-slice-read-if1 : tie.Need-shared-slice-read-if1
+shared-slice-read-if1 c = search needs
 
 returns : tie.Need-returns
-unfolding bigRow
-returns c = rw (sym (c .before .is-large .ensures) ∙ c .if1 .taken)
-
--- the first is not
-first : (c : tie.Else1) → big (c .before .before .before .args .n) (c .before .before .before .args .limit) (c .before .before .before .args .work .now) (c .before .before .before .args .q) ≡ false
-first c = sym (c .before .is-large .ensures) ∙ c .if1 .left
+returns c = (λ e. clash refl e)
 
 add-next : tie.Need-add-next
 add-next c = search needs
 
-is-large-requires-2 : tie.Need-is-large-requires-2
-is-large-requires-2 c κs = search needs
+mul-if2 : tie.Need-mul-if2
+mul-if2 c = search needs
+
+shared-slice-read-if2 : tie.Need-shared-slice-read-if2
+shared-slice-read-if2 c = search needs
 
 returns-2 : tie.Need-returns-2
-unfolding bigRow
-returns-2 c = rw (first (c .before .before), sym (c .before .is-large2 .ensures) ∙ c .if2 .taken)
+returns-2 c = (λ e. clash refl e)
 
 add-last : tie.Need-add-last
 add-last c = search needs
 
-is-large-requires-3 : tie.Need-is-large-requires-3
-is-large-requires-3 c κs = search needs
+mul-if3 : tie.Need-mul-if3
+mul-if3 c = search needs
+
+shared-slice-read-if3 : tie.Need-shared-slice-read-if3
+shared-slice-read-if3 c = search needs
 
 returns-3 : tie.Need-returns-3
-unfolding bigRow
-returns-3 c =
-    let e = c .before in
-    rw (first (e .before .before), sym (e .before .is-large2 .ensures) ∙ e .if2 .left) (c .is-large3 .ensures)
+returns-3 c = (λ e. clash refl e)
+
+returns-4 : tie.Need-returns-4
+returns-4 c =
+    let s = c .before .before .before .before .before .before in
+    let n = s .args .n in
+    let q = s .args .q in
+    let a = s .args .work .now in
+    (λ z. row-small n q a
+    (sym (plane-read n 5 q (5 * n + q) a (omega arith)) ∙ c .before .before .before .before .if1 .left)
+    (sym (plane-read n 5 (q + 1) (5 * n + q + 1) a (omega arith)) ∙ c .before .before .if2 .left)
+    (sym (plane-read n 5 (q + 2) (5 * n + q + 2) a (omega arith)) ∙ c .if3 .left))
 
 pub large-in-row-spec : {M : Type 1} → statement M
 large-in-row-spec =
     tie.close
     (tie.spec
-    is-large-requires
+    mul-first
+    add-first
+    mul-if1
+    shared-slice-read-if1
     returns
     add-next
-    is-large-requires-2
+    mul-if2
+    shared-slice-read-if2
     returns-2
     add-last
-    is-large-requires-3
-    returns-3)
+    mul-if3
+    shared-slice-read-if3
+    returns-3
+    returns-4)

@@ -1,8 +1,8 @@
 -- `verdicts::large::large_near`, test by test. Assumes nothing.
-use mathlib.Core.Path.{sym, _∙_}
-use borrow.Author.Tests.{lt-ltb, le-ltb, le-leb, lt-leb}
+use mathlib.Core.Path.{refl}
 use borrow.Author.Needs.{needs}
-use Rattle.verdicts.specs.Polling.{bigNear}
+use Rattle.base.proofs.Counting.{clash}
+use Rattle.verdicts.proofs.Nearby.{near-small}
 use Rattle.verdicts.proofs.large.large_near.Statement.{statement}
 use Rattle.verdicts.proofs.large.large_near.Tie as tie
 
@@ -10,24 +10,19 @@ add-reach : tie.Need-add-reach
 add-reach c = search needs
 
 returns : tie.Need-returns
-unfolding bigNear
-returns c = rw (lt-ltb _ _ (c .if1 .taken))
+returns c = (λ e. clash refl e)
 
 add-far : tie.Need-add-far
 add-far c = search needs
 
 returns-2 : tie.Need-returns-2
-unfolding bigNear
-returns-2 c = rw (le-ltb _ _ (c .before .if1 .left), le-leb _ _ (c .if2 .taken))
+returns-2 c = (λ e. clash refl e)
 
 large-in-row-requires : tie.Need-large-in-row-requires
 large-in-row-requires c κs = search needs
 
 returns-3 : tie.Need-returns-3
-unfolding bigNear
-returns-3 c =
-    let a = c .before in
-    rw (le-ltb _ _ (a .before .before .if1 .left), lt-leb _ _ (a .before .if2 .left), sym (a .large-in-row .ensures) ∙ c .if3 .taken)
+returns-3 c = (λ e. clash refl e)
 
 sub-before : tie.Need-sub-before
 sub-before c = search needs
@@ -36,11 +31,7 @@ large-in-row-requires-2 : tie.Need-large-in-row-requires-2
 large-in-row-requires-2 c κs = search needs
 
 returns-4 : tie.Need-returns-4
-unfolding bigNear
-returns-4 c =
-    let b = c .before in
-    let a = b .before .before in
-    rw (le-ltb _ _ (a .before .before .if1 .left), lt-leb _ _ (a .before .if2 .left), sym (a .large-in-row .ensures) ∙ b .before .if3 .left, sym (b .large-in-row2 .ensures) ∙ c .if4 .taken)
+returns-4 c = (λ e. clash refl e)
 
 sub-below : tie.Need-sub-below
 sub-below c = search needs
@@ -49,12 +40,12 @@ large-in-row-requires-3 : tie.Need-large-in-row-requires-3
 large-in-row-requires-3 c κs = search needs
 
 returns-5 : tie.Need-returns-5
-unfolding bigNear
 returns-5 c =
     let b = c .before .before in
     let a = b .before .before in
-    rw (le-ltb _ _ (a .before .before .if1 .left), lt-leb _ _ (a .before .if2 .left), sym (a .large-in-row .ensures) ∙ b .before .if3 .left, sym (b .large-in-row2 .ensures) ∙ c .before .if4 .left)
-    (c .large-in-row3 .ensures)
+    let e = a .before .before in
+    let s = e .before .before in
+    (λ z. near-small (s .args .n) (s .args .w) (s .args .p) (s .args .work .now) (e .if1 .left) (a .large-in-row .ensures (b .before .if3 .left)) (b .large-in-row2 .ensures (c .before .if4 .left)) (c .large-in-row3 .ensures z))
 
 pub large-near-spec : {M : Type 1} → statement M
 large-near-spec =

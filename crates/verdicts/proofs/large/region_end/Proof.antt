@@ -1,5 +1,5 @@
 -- `verdicts::large::region_end`. Assumes nothing.
-use Rattle.verdicts.proofs.Desks.{end-none, end-read}
+use Rattle.grid.proofs.Planes.{end-none, end-read}
 use borrow.Author.Needs.{needs}
 use Rattle.verdicts.proofs.large.region_end.Statement.{statement}
 use Rattle.verdicts.proofs.large.region_end.Tie as tie

@@ -5,7 +5,7 @@ use Prim.Native.Nat.{_<_}
 use Rattle.verdicts.specs.declared.target.Target.the-variants.{Nothing, Index}
 use Rattle.verdicts.specs.declared.target.Target.{Target}
 use Rattle.verdicts.specs.Choice.{apart, decision, choice}
-use Rattle.verdicts.proofs.Choosing.{nearest-below, choice-none, choice-some, decision-near, decision-far, decision-none}
+use Rattle.verdicts.proofs.Choosing.{nearest-below, choice-none, choice-some, decision-none}
 use borrow.Author.Needs.{needs}
 use Rattle.verdicts.proofs.target.choice.Statement.{statement}
 use Rattle.verdicts.proofs.target.choice.Tie as tie
@@ -50,23 +50,13 @@ few c =
     let l : c .c .given .0 .0 < s .args .k = nearest-below (apart (s .args .palette .now) (s .args .own)) (s .args .counts .now) (a .before .before .most .result) (s .args .k) (c .c .given .0 .0) (c .c .given .0 .1 .0) (sym (a .nearest .ensures) ∙ c .c .given .1) in
     omega (arith, s .pre .0)
 
-cast-result : tie.Need-cast-result
-cast-result c = omega (arith, few (c .before .before))
-
-add-result : tie.Need-add-result
-add-result c = omega (arith, few (c .before .before))
+decide-requires : tie.Need-decide-requires
+decide-requires c κs = few (c .before)
 
 returns-3 : tie.Need-returns-3
 returns-3 c =
     let a = c .before .before in
-    decision-near (a .c .given .0 .0) (a .c .given .0 .1 .0) (a .before .before .before .before .before .before .args .max-delta) (c .if2 .taken)
-    ∙ chosen (a .before .before) (Index (a .c .given .0 .0) (a .c .given .0 .1 .0)) (sym (a .c .given .1))
-
-returns-4 : tie.Need-returns-4
-returns-4 c =
-    let a = c .before .before in
-    decision-far (a .c .given .0 .0) (a .c .given .0 .1 .0) (a .before .before .before .before .before .before .args .max-delta) (c .if2 .left)
-    ∙ chosen (a .before .before) (Index (a .c .given .0 .0) (a .c .given .0 .1 .0)) (sym (a .c .given .1))
+    c .decide .ensures ∙ chosen (a .before .before) (Index (a .c .given .0 .0) (a .c .given .0 .1 .0)) (sym (a .c .given .1))
 
 pub choice-spec : {M : Type 1} → statement M
 choice-spec =
@@ -78,7 +68,5 @@ choice-spec =
     enum-known-c
     enum-told
     returns-2
-    cast-result
-    add-result
-    returns-3
-    returns-4)
+    decide-requires
+    returns-3)

@@ -7,16 +7,19 @@ use Rattle.grid.specs.Planes.{plane}
 use Rattle.grid.proofs.Places.{area}
 use Rattle.grid.proofs.Planes.{plane-read}
 use Rattle.verdicts.specs.Polling.{Polled}
-use Rattle.verdicts.proofs.Desks.{desk-kept}
+use Rattle.verdicts.proofs.Keeping.{sheet-polled}
 use Rattle.verdicts.proofs.Votes.{Beside, beside-start, beside-on}
 use Rattle.verdicts.proofs.voting.poll.Statement.{statement}
 use Rattle.verdicts.proofs.voting.poll.Tie as tie
 
 abbrev Inv-loop : tie.InvT-loop
-Inv-loop work₀ h w steps from to limit mark counts₀ n i₀ work counts i = Polled (h * w) limit mark (Beside h w steps work₀ from i) work₀ work counts × (from ≤ i) × (i ≤ to)
+Inv-loop work₀ h w steps from to mark counts₀ n i₀ work counts i = Polled (h * w) mark (Beside h w steps work₀ from i) work₀ work counts × (from ≤ i) × (i ≤ to)
 
 abbrev μ-loop : tie.MeasureT-loop
-μ-loop work₀ h w steps from to limit mark counts₀ n i₀ work counts i = to - i
+μ-loop work₀ h w steps from to mark counts₀ n i₀ work counts i = to - i
+
+marked : (s : tie.Start Inv-loop μ-loop) → s .args .mark ≡ 0 → ⊥
+marked s e = omega (arith, s .pre .1 .0 .2)
 
 mul-n : tie.Need-mul-n Inv-loop μ-loop
 mul-n c = let s = c .before in omega (arith, area (s .args .h) (s .args .w) (s .pre .0 .rows) (s .pre .0 .cols))
@@ -24,7 +27,7 @@ mul-n c = let s = c .before in omega (arith, area (s .args .h) (s .args .w) (s .
 loop-holds : tie.Need-loop-holds Inv-loop μ-loop
 loop-holds c =
     let s = c .before in (
-      beside-start (s .args .h) (s .args .w) (s .args .steps) (s .args .limit) (s .args .mark) (s .args .from) (s .args .work .now) (s .args .counts .now) (s .pre .1 .1),
+      beside-start (s .args .h) (s .args .w) (s .args .steps) (s .args .mark) (s .args .from) (marked s) (s .args .work .now) (s .args .counts .now) (s .pre .1 .1),
       omega arith,
       s .pre .1 .0 .0,
     )
@@ -54,10 +57,10 @@ place-is : (c : tie.In-loop Inv-loop μ-loop) → getD (c .before .loop .work) (
 place-is c =
     let n = start c .args .h * start c .args .w in
     let i = c .before .loop .i in
-    plane-read n 2 i (2 * n + i) (c .before .loop .work) (omega arith) ∙ c .before .loop .inv .0 .kept .same 2 i (omega arith) (bounds c .on)
+    plane-read n 2 i (2 * n + i) (c .before .loop .work) (omega arith) ∙ c .before .loop .inv .0 .kept .same 2 i (λ z. absurd (omega arith)) (bounds c .on)
 
 place-in : (c : tie.In-loop Inv-loop μ-loop) → getD (c .before .loop .work) (2 * (start c .args .h * start c .args .w) + c .before .loop .i) 0 < start c .args .h * start c .args .w
-place-in c = rw (place-is c) (start c .pre .1 .0 .2 (c .before .loop .i) (c .loop-test .taken))
+place-in c = rw (place-is c) (start c .pre .1 .0 .3 (c .before .loop .i) (c .before .loop .inv .1) (c .loop-test .taken))
 
 mul-p : tie.Need-mul-p Inv-loop μ-loop
 mul-p c = omega (arith, bounds c)
@@ -79,7 +82,7 @@ vote-all-requires c κs =
     let i = c .before .before .before in
     let s = start i in
     let u = i .before .loop .inv .0 in
-    (desk-kept (s .args .h) (s .args .w) (s .args .steps) (s .args .work .now) (s .pre .0) (i .before .loop .work) (u .kept), (place-in i, u .tally))
+    (sheet-polled (marked s) u (s .pre .0), ((place-in i, s .pre .1 .0 .2), u .tally))
 
 add-i : tie.Need-add-i Inv-loop μ-loop
 add-i c = omega (arith, bounds (c .before .before .before .before .before .before))
@@ -93,7 +96,7 @@ loop-again c =
     let i = v .before .before .before .before in
     let s = start i in
     let u = i .before .loop .inv in (
-      beside-on (s .args .h) (s .args .w) (s .args .steps) (s .args .limit) (s .args .mark) (s .args .from) (i .before .loop .counts) _ (i .before .loop .i) _ (u .1) (s .pre .0) (place-is i) (u .0) (v .vote-all .ensures),
+      beside-on (s .args .h) (s .args .w) (s .args .steps) (s .args .mark) (s .args .from) (marked s) (i .before .loop .counts) _ (i .before .loop .i) _ (u .1) (place-is i) (u .0) (v .vote-all .ensures),
       omega (arith, u .1),
       omega (arith, bounds i),
     )
@@ -106,7 +109,7 @@ returns c =
     let s = c .before .before .before in
     let u = c .before .loop .inv in
     let e : c .before .loop .i ≡ s .args .to = omega (arith, u .2, c .loop-test .left) in
-    subst (λ (x : ℕ). Polled (s .args .h * s .args .w) (s .args .limit) (s .args .mark) (Beside (s .args .h) (s .args .w) (s .args .steps) (s .args .work .now) (s .args .from) x) (s .args .work .now) (c .before .loop .work) (c .before .loop .counts)) e (u .0)
+    subst (λ (x : ℕ). Polled (s .args .h * s .args .w) (s .args .mark) (Beside (s .args .h) (s .args .w) (s .args .steps) (s .args .work .now) (s .args .from) x) (s .args .work .now) (c .before .loop .work) (c .before .loop .counts)) e (u .0)
 
 pub poll-spec : {M : Type 1} → statement M
 poll-spec =

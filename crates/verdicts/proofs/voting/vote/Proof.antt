@@ -1,7 +1,8 @@
 -- `verdicts::voting::vote`: the cell that a step finds. Assumes nothing.
-use Prim.Native.Nat.{_*_}
+use Prim.Native.Nat.{_*_, _/_, _%_}
 use mathlib.Core.Path.{_≡_, sym, _∙_}
 use mathlib.Core.Option.{some}
+use native.Mathlib.Omega.{arith}
 use mir.Facts.{toZ-ofZ}
 use Rattle.rules.specs.Grid.{stepTo}
 use Rattle.grid.specs.Steps.{stepOf}
@@ -11,17 +12,18 @@ use borrow.Author.Needs.{needs}
 use Rattle.verdicts.proofs.voting.vote.Statement.{statement}
 use Rattle.verdicts.proofs.voting.vote.Tie as tie
 
-neighbour-requires : tie.Need-neighbour-requires
-neighbour-requires c κs =
+marked : (s : tie.Start) → s .args .mark ≡ 0 → ⊥
+marked s e = omega (arith, s .pre .1 .0 .3)
+
+reached-requires : tie.Need-reached-requires
+reached-requires c κs =
     let s = c .before in
-    let p = s .pre .1 .1 .0 in (
-      s .pre .1 .0,
-      (rw (toZ-ofZ (s .fits .dy)) (p .0), rw (toZ-ofZ (s .fits .dy)) (p .1), rw (toZ-ofZ (s .fits .dx)) (p .2), rw (toZ-ofZ (s .fits .dx)) (p .3)),
-    )
+    let p = s .pre .1 .1 .0 in
+    ((s .pre .1 .0 .0, s .pre .1 .0 .1, s .pre .1 .0 .2), (rw (toZ-ofZ (s .fits .dy)) (p .0), rw (toZ-ofZ (s .fits .dx)) (p .1), p .2))
 
 -- what the step finds
-found : (c : tie.After-neighbour) → c .neighbour .result ≡ stepOf (stepTo (c .before .before .args .h) (c .before .before .args .w) (c .before .before .args .y) (c .before .before .args .x) (c .before .before .args .dy) (c .before .before .args .dx))
-found c = let s = c .before .before in rw (toZ-ofZ (s .fits .dy), toZ-ofZ (s .fits .dx)) at (c .neighbour .ensures)
+found : (c : tie.After-reached) → c .reached .result ≡ stepOf (stepTo (c .before .before .args .h) (c .before .before .args .w) (c .before .before .args .p / c .before .before .args .w) (c .before .before .args .p % c .before .before .args .w) (c .before .before .args .dy) (c .before .before .args .dx))
+found c = let s = c .before .before in rw (toZ-ofZ (s .fits .dy), toZ-ofZ (s .fits .dx)) at (c .reached .ensures)
 
 enum-known-q : tie.Need-enum-known-q
 enum-known-q c = search needs
@@ -33,10 +35,10 @@ returns : tie.Need-returns
 returns c =
     let a = c .before .before in
     let s = a .before .before in
-    polled-off (s .args .h * s .args .w) (s .args .limit) (s .args .mark) (step-off (sym (found a) ∙ c .enum-told .given .1)) (s .pre .1 .1 .1)
+    polled-off (s .args .h * s .args .w) (s .args .mark) (marked s) (step-off (sym (found a) ∙ c .enum-told .given .1)) (s .pre .1 .1 .1)
 
 -- the cell that it finds
-at : (c : tie.After-q) → stepTo (c .before .before .before .before .args .h) (c .before .before .before .before .args .w) (c .before .before .before .before .args .y) (c .before .before .before .before .args .x) (c .before .before .before .before .args .dy) (c .before .before .before .before .args .dx) ≡ some (c .q .given .0 .0)
+at : (c : tie.After-q) → stepTo (c .before .before .before .before .args .h) (c .before .before .before .before .args .w) (c .before .before .before .before .args .p / c .before .before .before .before .args .w) (c .before .before .before .before .args .p % c .before .before .before .before .args .w) (c .before .before .before .before .args .dy) (c .before .before .before .before .args .dx) ≡ some (c .q .given .0 .0)
 at c = step-cell (sym (found (c .before .before)) ∙ c .q .given .1)
 
 mul-n : tie.Need-mul-n
@@ -46,7 +48,7 @@ ask-requires : tie.Need-ask-requires
 ask-requires c κs =
     let a = c .before .before .before in
     let s = a .before .before .before .before in
-    (s .pre .0, (step-sound _ _ _ _ _ _ _ (at a) .inside, s .pre .1 .1 .1))
+    (s .pre .0, ((step-sound _ _ _ _ _ _ _ (at a) .inside, s .pre .1 .0 .3), s .pre .1 .1 .1))
 
 same-length : tie.Need-same-length
 same-length c = search needs
@@ -56,13 +58,13 @@ returns-2 c =
     let v = c .before .before in
     let a = v .before .before .before .before in
     let s = a .before .before .before .before in
-    polled-on (s .args .h * s .args .w) (s .args .limit) (s .args .mark) (a .q .given .0 .0) (at a) (v .ask .ensures)
+    polled-on (s .args .h * s .args .w) (s .args .mark) (marked s) (a .q .given .0 .0) (at a) (v .ask .ensures)
 
 pub vote-spec : {M : Type 1} → statement M
 vote-spec =
     tie.close
     (tie.spec
-    neighbour-requires
+    reached-requires
     enum-known-q
     enum-told
     returns

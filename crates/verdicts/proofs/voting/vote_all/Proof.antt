@@ -1,36 +1,37 @@
 -- `verdicts::voting::vote_all`: the steps from a place. Assumes nothing.
 use Prim.Native.Nat.{_-_, _*_, _≤_, _<_}
+use mathlib.Core.Path.{_≡_}
 use native.Mathlib.Omega.{arith}
 use borrow.Author.Needs.{needs}
 use mir.Syntax.{w32}
 use mir.Val.{SFits}
 use mir.Facts.{toZ-ofZ}
-use Rattle.grid.proofs.Places.{wide, row-in, col-in, rowsOf, colsOf, hop, step-few, offset-near}
+use Rattle.grid.proofs.Places.{rowsOf, colsOf, hop, step-few, offset-single}
 use Rattle.verdicts.specs.Polling.{Polled}
-use Rattle.verdicts.proofs.Desks.{desk-ready, desk-kept}
+use Rattle.verdicts.proofs.Keeping.{sheet-votes, sheet-polled}
 use Rattle.verdicts.proofs.Votes.{Reached, reach-start, reach-on, reach-all}
 use Rattle.verdicts.proofs.voting.vote_all.Statement.{statement}
 use Rattle.verdicts.proofs.voting.vote_all.Tie as tie
 
 abbrev Inv-loop : tie.InvT-loop
-Inv-loop work₀ h w steps p limit mark counts₀ y x offsets k₀ work counts k = Polled (h * w) limit mark (Reached h w p k) work₀ work counts × (k ≤ steps)
+Inv-loop work₀ h w steps p mark counts₀ border offsets k₀ work counts k = Polled (h * w) mark (Reached h w p k) work₀ work counts × (k ≤ steps)
 
 abbrev μ-loop : tie.MeasureT-loop
-μ-loop work₀ h w steps p limit mark counts₀ y x offsets k₀ work counts k = steps - k
+μ-loop work₀ h w steps p mark counts₀ border offsets k₀ work counts k = steps - k
 
-div-y : tie.Need-div-y Inv-loop μ-loop
-div-y c = wide _ _ _ (c .before .pre .1 .0)
+marked : (s : tie.Start Inv-loop μ-loop) → s .args .mark ≡ 0 → ⊥
+marked s e = omega (arith, s .pre .1 .0 .1)
 
-rem-x : tie.Need-rem-x Inv-loop μ-loop
-rem-x c = wide _ _ _ (c .before .pre .1 .0)
+on-border-requires : tie.Need-on-border-requires Inv-loop μ-loop
+on-border-requires c κs = let s = c .before in (s .pre .1 .0 .0, s .pre .0 .rows, s .pre .0 .cols)
 
 loop-holds : tie.Need-loop-holds Inv-loop μ-loop
 loop-holds c =
-    let s = c .before in
-    (reach-start (s .args .h) (s .args .w) (s .args .steps) (s .args .limit) (s .args .mark) (s .args .p) (s .args .work .now) (s .args .counts .now) (s .pre .1 .1), omega arith)
+    let s = c .before .before in
+    (reach-start (s .args .h) (s .args .w) (s .args .steps) (s .args .mark) (s .args .p) (marked s) (s .args .work .now) (s .args .counts .now) (s .pre .1 .1), omega arith)
 
 abbrev start : tie.In-loop Inv-loop μ-loop → tie.Start Inv-loop μ-loop
-start c = c .before .before .before
+start c = c .before .before .before .before
 
 k-small : (c : tie.In-loop Inv-loop μ-loop) → c .before .loop .k < 8
 k-small c = step-few (start c .args .steps) (start c .pre .0 .ways) (c .before .loop .k) (c .loop-test .taken)
@@ -59,14 +60,14 @@ vote-requires c κs =
     let i = c .before .before .before .before .before in
     let s = start i in
     let u = i .before .loop .inv .0 in
-    let d = desk-kept (s .args .h) (s .args .w) (s .args .steps) (s .args .work .now) (s .pre .0) (i .before .loop .work) (u .kept) in
-    let o = offset-near (i .before .loop .k) (k-small i) in
-    let l = s .pre .1 .0 in (
-      desk-ready (s .args .h) (s .args .w) (s .args .steps) (i .before .loop .work) d,
+    let d = sheet-polled (marked s) u (s .pre .0) in
+    let o = offset-single (i .before .loop .k) (k-small i) in
+    let l = s .pre .1 .0 .0 in (
+      sheet-votes d,
       (
-        (row-in _ _ _ l, col-in _ _ _ l, d .rows, d .cols),
+        (l, d .rows, d .cols, s .pre .1 .0 .1),
         (
-          (rw (toZ-ofZ (rows-fit c)) (o .up), rw (toZ-ofZ (rows-fit c)) (o .down), rw (toZ-ofZ (cols-fit c)) (o .left), rw (toZ-ofZ (cols-fit c)) (o .right)),
+          (rw (toZ-ofZ (rows-fit c)) (o .0), rw (toZ-ofZ (cols-fit c)) (o .1), i .before .before .on-border .ensures),
           u .tally,
         ),
       ),
@@ -85,7 +86,7 @@ loop-again c =
     let a = v .before in
     let i = a .before .before .before .before .before in
     let s = start i in (
-      reach-on (s .args .h) (s .args .w) (s .args .steps) (s .args .limit) (s .args .mark) (s .args .p) (i .before .loop .counts) _ (i .before .loop .k) (s .pre .0) (i .before .loop .inv .0)
+      reach-on (s .args .h) (s .args .w) (s .args .steps) (s .args .mark) (s .args .p) (marked s) (i .before .loop .counts) _ (i .before .loop .k) (i .before .loop .inv .0)
           (rw (toZ-ofZ (rows-fit a), toZ-ofZ (cols-fit a)) at (v .vote .ensures)),
       omega (arith, i .loop-test .taken),
     )
@@ -95,8 +96,8 @@ same-length c = c .before .loop .inv .0 .kept .len
 
 returns : tie.Need-returns Inv-loop μ-loop
 returns c =
-    let s = c .before .before .before in
-    reach-all (s .args .h) (s .args .w) (s .args .steps) (s .args .limit) (s .args .mark) (s .args .p) (c .before .loop .k) (s .pre .0 .ways)
+    let s = c .before .before .before .before in
+    reach-all (s .args .h) (s .args .w) (s .args .steps) (s .args .mark) (s .args .p) (marked s) (c .before .loop .k) (s .pre .0 .ways)
     (omega (arith, c .before .loop .inv .1, c .loop-test .left)) (c .before .loop .inv .0)
 
 pub vote-all-spec : {M : Type 1} → statement M
@@ -105,8 +106,7 @@ vote-all-spec =
     (tie.spec
     Inv-loop
     μ-loop
-    div-y
-    rem-x
+    on-border-requires
     loop-holds
     mul-o
     array-copy-out-o

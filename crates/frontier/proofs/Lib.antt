@@ -1,0 +1,11 @@
+pub mod Decisions
+pub mod Growth
+pub mod Setting
+pub mod Notes
+pub mod Stages
+pub mod Filing
+pub mod Progress
+pub mod Repaints
+pub mod Gains
+pub mod Decided
+pub mod Outcome
