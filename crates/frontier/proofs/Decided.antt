@@ -39,7 +39,7 @@ module _ (h w steps from mid : ℕ) (a b : List ℕ) (d : Decided h w steps from
 
   -- the number of a group in use
   number : (x t : ℕ) → x < n → plane n 1 a x ≡ suc t → plane n 6 b t ≡ plane n 6 a t
-  number x t l e = r .same 6 t (λ z. absurd (omega arith)) (λ z. absurd (omega arith)) (d .board .groups x t l e .label)
+  number x t l e = r .same 6 t (λ z. absurd (omega arith)) (λ z. absurd (omega arith)) (d .sheet .groups x t l e .label)
 
   -- the log is as it was
   pub log-still : (i : ℕ) → i < mid → plane n 7 b i ≡ plane n 7 a i
@@ -54,7 +54,7 @@ module _ (h w steps from mid : ℕ) (a b : List ℕ) (d : Decided h w steps from
 
   sheet-still : GroupedSheet h w steps b
   sheet-still =
-      let o = d .board in
+      let o = d .sheet in
       record {
         rows = o .rows;
         cols = o .cols;
@@ -82,7 +82,7 @@ module _ (h w steps from mid : ℕ) (a b : List ℕ) (d : Decided h w steps from
   -- absorbing may begin
   pub decided-growth : Growth h w steps mid b
   decided-growth = record {
-    board = sheet-still;
+    sheet = sheet-still;
     whole = λ x y l m z e. whole-still x y l m (rw (label x l) at z) (sym (label x l) ∙ e ∙ label y m);
     done = λ x t l e z. let e′ : plane n 1 a x ≡ suc t = sym (label x l) ∙ e in
         ⊎-elim (old-big x l) (repainted-big x t l e′) (d .done x t l e′ (rw (number x t l e′) at z));

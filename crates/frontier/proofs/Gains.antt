@@ -219,7 +219,7 @@ module _ (h w steps end : ℕ) (a : List ℕ) (g : Growth h w steps end a) (q at
 
     -- the number of a group that is in use
     number : (x t : ℕ) → x < n → plane n 1 a x ≡ suc t → plane n 6 c t ≡ plane n 6 a t
-    number x t l e = off 6 t (λ z. absurd (omega arith)) (λ z. absurd (omega arith)) (g .board .groups x t l e .label)
+    number x t l e = off 6 t (λ z. absurd (omega arith)) (λ z. absurd (omega arith)) (g .sheet .groups x t l e .label)
 
     idle-was : (x : ℕ) → x < n → idle n c x ≡ true → idle n a x ≡ true
     idle-was x l y =
@@ -237,9 +237,9 @@ module _ (h w steps end : ℕ) (a : List ℕ) (g : Growth h w steps end a) (q at
     idle-not : idle n c q ≡ false
     idle-not = case (idle n c q) (λ y. clash (big-one n c q (mine q lq eq)) (idle-record n c q y .little)) (λ y. y)
 
-    board-grown : GroupedSheet h w steps c
-    board-grown =
-        let d = g .board in
+    sheet-grown : GroupedSheet h w steps c
+    sheet-grown =
+        let d = g .sheet in
         record {
           rows = d .rows;
           cols = d .cols;
@@ -256,7 +256,7 @@ module _ (h w steps end : ℕ) (a : List ℕ) (g : Growth h w steps end a) (q at
 
     growth-grown : Growth h w steps (suc end) c
     growth-grown = record {
-      board = board-grown;
+      sheet = sheet-grown;
       whole = λ x y l m p e. let e′ : plane n 1 a x ≡ plane n 1 a y = sym (label x l) ∙ e ∙ label y m in
           let f = g .whole x y l m (rw (label x l) at p) e′ in
           big-now x l ∙ (rw (f, e′)) ∙ sym (big-now y m);

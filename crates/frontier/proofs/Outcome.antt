@@ -113,9 +113,9 @@ module _ (rule : Rule) (symm : Symmetric (rule .adj)) (h w steps k : ℕ) (size 
   -- what grow asks, if what was repainted before this pass is large
   pub met-decided : ((x t : ℕ) → x < n → plane n 1 a x ≡ suc t → 2 ≤ plane n 6 a t → largeOf n a x ≡ true) → Decided h w steps from mid b
   met-decided old = record {
-    board = u .stage .board;
+    sheet = u .stage .sheet;
     whole = whole-b;
-    groups = λ i l m. let c = u .log .named i l m in u .stage .board .groups (c .place) (plane n 7 b i) (c .inside) (label-b (c .place) (c .inside) ∙ c .label);
+    groups = λ i l m. let c = u .log .named i l m in u .stage .sheet .groups (c .place) (plane n 7 b i) (c .inside) (label-b (c .place) (c .inside) ∙ c .label);
     numbers = λ i l m. let c = u .log .named i l m in (c .number, omega (arith, number-known (c .place) (plane n 7 b i) (c .inside) (c .label) c, u .stage .known .few));
     done = λ x t l e z. let ea : plane n 1 a x ≡ suc t = sym (label-b x l) ∙ e in
         let k1 : plane n 1 a x - 1 ≡ t = omega arith in
@@ -233,7 +233,7 @@ module _ (rule : Rule) (symm : Symmetric (rule .adj)) (h w steps k : ℕ) (size 
     grown-log =
         logged-trans n (plane n 1 a) (plane n 1 c) (largeOf n a) (largeOf n c) (largeOf n d) (plane n 7 c) (plane n 7 d) from mid end (u .log .rises) (v .rises) label-c was-big (gained-old v) (v .kept) logged-c (v .logged)
 
-    -- ---- what else the next pass needs; its board and the log's room are those of v .growth
+    -- ---- what else the next pass needs; its sheet and the log's room are those of v .growth
 
     -- planes 1 to 4 and 6 are as judging left them
     pub kept-planes : (j q : ℕ) → (0 ≡ j → ⊥) → (5 ≡ j → ⊥) → (7 ≡ j → ⊥) → q < n → plane n j d q ≡ plane n j b q

@@ -188,7 +188,7 @@ module _ (rule : Rule) (symm : Symmetric (rule .adj)) (h w steps k : ℕ) (e : r
       judging = judging-noted rule symm (h * w) e a b (largeOf (h * w) a) (large rule (cellsOf (h * w) a)) ready thaw-at (u .same) (u .judging) at end c r v lead (lead-at .0) lead-in in-use;
       numbered = numbered′;
       log = filed-trans (h * w) from end r a b c (λ q l. u .same 1 q (omega arith) l) was stays (u .log)
-          (filed-noted rule (h * w) at end b c r v (λ x l b e. u .stage .board .groups x l b e .label) lead (lead-at .0) (lead-at .1));
+          (filed-noted rule (h * w) at end b c r v (λ x l b e. u .stage .sheet .groups x l b e .label) lead (lead-at .0) (lead-at .1));
     }
       where
         lead : ℕ
@@ -201,19 +201,19 @@ module _ (rule : Rule) (symm : Symmetric (rule .adj)) (h w steps k : ℕ) (e : r
         lead-in = sym (u .same 1 lead (omega arith) (lead-at .0)) ∙ lead-at .1
 
         in-use : (x : ℕ) → x < h * w → 0 < plane (h * w) 1 a x → plane (h * w) 1 a x - 1 < h * w
-        in-use x l z = u .stage .board .groups x (plane (h * w) 1 a x - 1) l (u .same 1 x (omega arith) l ∙ omega arith) .label
+        in-use x l z = u .stage .sheet .groups x (plane (h * w) 1 a x - 1) l (u .same 1 x (omega arith) l ∙ omega arith) .label
 
         was : (x t : ℕ) → x < h * w → plane (h * w) 1 a x ≡ suc t → plane (h * w) 6 b t ≡ 0 → plane (h * w) 6 a t ≡ 0
         was x t l y z = free-was rule symm (h * w) e a b (largeOf (h * w) a) (large rule (cellsOf (h * w) a)) ready thaw-at (u .same) (u .judging) x t l y z
 
         stays : (x t : ℕ) → x < h * w → plane (h * w) 1 a x ≡ suc t → (plane (h * w) 6 b t ≡ 0 → ⊥) → plane (h * w) 6 c t ≡ plane (h * w) 6 b t
         stays x t l y z =
-            let lt : t < h * w = u .stage .board .groups x t l (u .same 1 x (omega arith) l ∙ y) .label in
+            let lt : t < h * w = u .stage .sheet .groups x t l (u .same 1 x (omega arith) l ∙ y) .label in
             elim (ℕ-discrete t at) [ no d ↦ v .numbers t lt d | yes i ↦ ap (plane (h * w) 6 c) i ∙ v .done (λ q. z (ap (plane (h * w) 6 b) i ∙ q)) ∙ ap (plane (h * w) 6 b) (sym i) ]
 
         numbered′ : (x t : ℕ) → x < h * w → plane (h * w) 1 a x ≡ suc t → met t ⊎ (t ≡ at) → plane (h * w) 6 a t ≡ 0 → plane (h * w) 6 c t ≡ code (fate (fates rule (stateOf (h * w) a)) x)
         numbered′ x t l y z f =
-            let lt : t < h * w = u .stage .board .groups x t l (u .same 1 x (omega arith) l ∙ y) .label in
+            let lt : t < h * w = u .stage .sheet .groups x t l (u .same 1 x (omega arith) l ∙ y) .label in
             let k1 : plane (h * w) 1 a x - 1 ≡ t = omega arith in
             elim (ℕ-discrete t at) [
               | no d ↦ ⊎-elim (λ i. v .numbers t lt d ∙ u .numbered x t l y i f) (λ i. absurd (d i)) z

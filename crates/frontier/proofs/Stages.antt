@@ -72,9 +72,9 @@ module _ (rule : Rule) (h w steps k at end : ℕ) (a : List ℕ) (st : Stage rul
     alike : Alike n a b
     alike = record { label = label-same; order = λ q l. u .same 2 q (omega arith) l; ends = λ q l. u .same 3 q (omega arith) l }
 
-    board-noted : GroupedSheet h w steps b
-    board-noted =
-        let d = st .board in
+    sheet-noted : GroupedSheet h w steps b
+    sheet-noted =
+        let d = st .sheet in
         record {
           rows = d .rows;
           cols = d .cols;
@@ -115,7 +115,7 @@ module _ (rule : Rule) (h w steps k at end : ℕ) (a : List ℕ) (st : Stage rul
     thawed-still : (x t : ℕ) → x < n → plane n 1 b x ≡ suc t → plane n 6 b t ≡ 0 → marked (stateOf n b .frozen) x ≡ true → ⊥
     thawed-still x t l e z y =
         let e′ : plane n 1 a x ≡ suc t = sym (label-same x l) ∙ e in
-        let lt : t < n = st .board .groups x t l e′ .label in
+        let lt : t < n = st .sheet .groups x t l e′ .label in
         let same : plane n 4 b x ≡ plane n 4 a x = u .thawed x l (elim (ℕ-discrete t at) [
           | yes i ↦ inr (inr (λ o. let v : plane n 6 b at ≡ 0 = rw i at z in omega arith))
           | no i ↦ inl (λ o. i (let v : suc t ≡ suc at = sym e′ ∙ o in omega arith))
@@ -159,7 +159,7 @@ module _ (rule : Rule) (h w steps k at end : ℕ) (a : List ℕ) (st : Stage rul
         let e = label-same x l in
         let t = plane n 1 b x - 1 in
         let tl : plane n 1 a x ≡ suc t = omega arith in
-        let lt : t < n = st .board .groups x t l tl .label in
+        let lt : t < n = st .sheet .groups x t l tl .label in
         let num : plane n 6 a t < 2 = elim (ℕ-discrete t at) [
           | no z ↦ (let v = u .numbers t lt z in omega arith)
           | yes z ↦ (elim (ℕ-discrete (plane n 6 a at) 0) [
@@ -195,7 +195,7 @@ module _ (rule : Rule) (h w steps k at end : ℕ) (a : List ℕ) (st : Stage rul
     -- the next step may follow
     pub stage-noted : Stage rule h w steps k r b
     stage-noted = record {
-      board = board-noted;
+      sheet = sheet-noted;
       known = record { few = st .known .few; below = λ q l. rw (u .same 0 q (omega arith) l) (st .known .below q l) };
       sound = sound-noted;
       unmarked = unmarked-still;

@@ -43,7 +43,7 @@ pub record Repainted (n : ℕ) (named : ℕ → Type 0) (a b : List ℕ) : Type 
 
 -- The planes as each step of growing finds and leaves them, with the log up to `end`: a group is large as a whole, a repainted one is large, and the log has room for every idle place
 pub record Growth (h w steps end : ℕ) (work : List ℕ) : Type 0 where
-  pub board : GroupedSheet h w steps work
+  pub sheet : GroupedSheet h w steps work
   pub whole : (x y : ℕ) → x < h * w → y < h * w → 0 < plane (h * w) 1 work x → plane (h * w) 1 work x ≡ plane (h * w) 1 work y → largeOf (h * w) work x ≡ largeOf (h * w) work y
   pub done : (x at : ℕ) → x < h * w → plane (h * w) 1 work x ≡ suc at → 2 ≤ plane (h * w) 6 work at → largeOf (h * w) work x ≡ true
   pub room : end + count (h * w) (idle (h * w) work) ≤ h * w
@@ -70,7 +70,7 @@ pub record Gained (h w steps : ℕ) (near : ℕ → Type 0) (a b : List ℕ) (fr
 
 -- The planes once the groups to be repainted are logged, from `from` on and before `mid`: every other group with a number of 2 or more is large
 pub record Decided (h w steps from mid : ℕ) (work : List ℕ) : Type 0 where
-  pub board : GroupedSheet h w steps work
+  pub sheet : GroupedSheet h w steps work
   pub whole : (x y : ℕ) → x < h * w → y < h * w → 0 < plane (h * w) 1 work x → plane (h * w) 1 work x ≡ plane (h * w) 1 work y → largeOf (h * w) work x ≡ largeOf (h * w) work y
   pub groups : (i : ℕ) → from ≤ i → i < mid → Group (h * w) work (plane (h * w) 7 work i)
   pub numbers : (i : ℕ) → from ≤ i → i < mid → (2 ≤ plane (h * w) 6 work (plane (h * w) 7 work i)) × (plane (h * w) 6 work (plane (h * w) 7 work i) ≤ 257)

@@ -42,7 +42,7 @@ idle n work x = ltb 0 (plane n 1 work x) && not (largeOf n work x) && ltb (plane
 
 -- The planes as each step of judging finds and leaves them, with the log up to `end`: no place has the mark of a group without a number, and the log has room for every idle place
 pub record Stage (rule : Rule) (h w steps k end : ℕ) (work : List ℕ) : Type 0 where
-  pub board : GroupedSheet h w steps work
+  pub sheet : GroupedSheet h w steps work
   pub known : Indexed (h * w) k work
   pub sound : Sound rule (h * w) work
   pub unmarked : (at : ℕ) → at < h * w → plane (h * w) 6 work at ≡ 0 → (q : ℕ) → q < h * w → plane (h * w) 5 work q ≡ at + 2 → ⊥

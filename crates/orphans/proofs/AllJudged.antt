@@ -23,7 +23,8 @@ use Rattle.frontier.proofs.Decisions.{waits-little, judging-end}
 use Rattle.verdicts.proofs.Verdicts.{code-acts}
 use Rattle.frontier.proofs.Progress.{sound-ready, met-fewer}
 use Rattle.orphans.specs.Starting.{AtStart}
-use Rattle.orphans.specs.Passing.{AtFrontier, AllJudged}
+use Rattle.orphans.specs.Passing.{AtFrontier}
+use Rattle.orphans.proofs.Parts.{AllJudged}
 use Rattle.orphans.proofs.AtStart.{start-stage, start-told}
 
 -- the groups that a judging met are those that wait beside the frontier
@@ -74,7 +75,7 @@ module _ (h w steps k limit : ℕ) (palette : List Float) (reach : Float) where
       AllJudged rule h w steps k end mid a b
   unfolding ruleOf stateOf Symmetric
   frontier-all-judged a b begin end mid u v =
-      let symm : Symmetric (hood steps w) = hood-symmetric steps (u .between .stage .board .ways) w in
+      let symm : Symmetric (hood steps w) = hood-symmetric steps (u .between .stage .sheet .ways) w in
       let sound = u .between .stage .sound in
       let g = sound-ready rule symm n refl a sound .grouped in
       all-judged rule symm h w steps k refl a sound (u .between .told) (u .front) (u .fronted) _ b end mid v

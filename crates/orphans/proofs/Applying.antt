@@ -23,7 +23,8 @@ use Rattle.frontier.proofs.Growth.{merges-code}
 use Rattle.frontier.specs.Judging.{frozenOf}
 use Rattle.frontier.proofs.Stages.{frozen-is}
 use Rattle.frontier.proofs.Progress.{sound-ready}
-use Rattle.orphans.specs.Passing.{Passed, AllJudged, TargetsTaken}
+use Rattle.orphans.specs.Passing.{Passed}
+use Rattle.orphans.proofs.Parts.{AllJudged, TargetsTaken}
 
 -- ---- numbers and verdicts
 

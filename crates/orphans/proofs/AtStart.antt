@@ -124,7 +124,7 @@ module _ (h w steps k limit : ℕ) (palette : List Float) (reach : Float) (a : L
 
   pub start-stage : Stage rule h w steps k 0 a
   start-stage = record {
-    board = grouped;
+    sheet = grouped;
     known = u .known;
     sound = sound;
     unmarked = λ t lt z q l e. let m = flag-le (inLarge n limit a q) in let f = u .flags q l in omega arith;

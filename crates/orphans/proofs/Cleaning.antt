@@ -96,7 +96,7 @@ module _ (rule : Rule) (n k max : ℕ) (a : List ℕ) where
 pub same-size : {h w steps : ℕ} {a b : List ℕ} → Sized h w steps a → length b ≡ length a → Sized h w steps b
 same-size s e = record { rows = s .rows; cols = s .cols; count = s .count; planes = rw e (s .planes) }
 
--- the planes were a before the ice was wiped
+-- the planes were a before plane 4 was wiped
 pub cleaned-from : (rule : Rule) (n k max : ℕ) (a b c : List ℕ) (r : ℕ) → rule .places ≡ n → Wiped (4 * n) n a b → CleanedTo (clean rule max (stateOf n b)) n k b c r → CleanedTo (clean rule max (fresh rule (cellsOf n a))) n k a c r
 cleaned-from rule n k max a b c r e u v =
     let t = thawed n k a b u rule e in

@@ -22,7 +22,8 @@ use Rattle.verdicts.specs.Groups.{GroupedSheet}
 use Rattle.verdicts.proofs.Keeping.{Alike, group-alike}
 use Rattle.frontier.proofs.Stages.{frozen-is, big-some}
 use Rattle.frontier.proofs.Progress.{sound-ready}
-use Rattle.orphans.specs.Passing.{BetweenPasses, AtFrontier, AllJudged, TargetsTaken, GrownTo}
+use Rattle.orphans.specs.Passing.{BetweenPasses, AtFrontier}
+use Rattle.orphans.proofs.Parts.{AllJudged, TargetsTaken, GrownTo}
 use Rattle.orphans.proofs.Applying.{passed-cells, passed-frozen, passed-state, passed-known}
 
 -- a verdict with a number is one or the other
@@ -91,7 +92,7 @@ module _ (rule : Rule) (symm : Symmetric (rule .adj)) (h w steps k : ℕ) (is : 
 
   -- a label names a group
   in-use : (x : ℕ) → x < n → 0 < plane n 1 a x → plane n 1 a x - 1 < n
-  in-use x l z = u .judged .stage .board .groups x (plane n 1 a x - 1) l (u .judged .same 1 x (omega arith) l ∙ omega arith) .label
+  in-use x l z = u .judged .stage .sheet .groups x (plane n 1 a x - 1) l (u .judged .same 1 x (omega arith) l ∙ omega arith) .label
 
   -- ---- numbers
 
@@ -140,9 +141,9 @@ module _ (rule : Rule) (symm : Symmetric (rule .adj)) (h w steps k : ℕ) (is : 
   shown′ : (x : ℕ) → x < n → opaque (s′ .cells) x ≡ true → 1 ≤ plane n 0 d x
   shown′ x l o = let e = index-is n d x l (ap (λ (c : List ℤ). opaque c x) cells-are ∙ o) in omega arith
 
-  board′ : GroupedSheet h w steps d
-  board′ =
-      let old = u .judged .stage .board in
+  sheet′ : GroupedSheet h w steps d
+  sheet′ =
+      let old = u .judged .stage .sheet in
       record {
         rows = old .rows;
         cols = old .cols;
@@ -168,7 +169,7 @@ module _ (rule : Rule) (symm : Symmetric (rule .adj)) (h w steps k : ℕ) (is : 
     shown = λ x l. let q = ready′ .grouped .shown x (in-rule x l) in ((λ o. rw (label-d x l) (q .0 (rw cells-are at o))), (λ m. rw cells-are (q .1 (rw (label-d x l) at m))));
     frozen = λ x y lx ly z e. frozen-still x ∙ ready′ .grouped .frozen x y (in-rule x lx) (in-rule y ly) (rw (label-d x lx) at z) (sym (label-d x lx) ∙ e ∙ label-d y ly) ∙ sym (frozen-still y);
     flags = λ x l. ready′ .flags x (in-rule x l) ∙ ap (λ (c : List ℤ). large rule c x) (sym cells-are);
-    thawed = λ x t l e z y. let lt = board′ .groups x t l e .label in
+    thawed = λ x t l e z y. let lt = sheet′ .groups x t l e .label in
         let i : plane n 1 a x - 1 ≡ t = omega (arith, label-d x l) in
         clash y (frozen-still x ∙ told-thawed x l (omega (arith, label-d x l)) (ap (plane n 6 b) i ∙ sym (g .numbers t lt) ∙ z));
     clear = λ x l e. frozen-is n d x l ∙ ap (λ (y : ℕ). not (eqb y 0)) (v .frozen x l) ∙ sym (frozen-is n b x l)
@@ -177,7 +178,7 @@ module _ (rule : Rule) (symm : Symmetric (rule .adj)) (h w steps k : ℕ) (is : 
 
   stage′ : Stage rule h w steps k last d
   stage′ = record {
-    board = board′;
+    sheet = sheet′;
     known = known′;
     sound = sound′;
     unmarked = g .unmarked;
@@ -193,5 +194,5 @@ module _ (rule : Rule) (symm : Symmetric (rule .adj)) (h w steps k : ℕ) (is : 
     listed = λ q l e. let y = left (largeOf n d q && not (largeOf n a q)) (ltb q (rule .places)) e in
         let i = g .logged .all q l (left (largeOf n d q) (not (largeOf n a q)) y) (not-true (right (largeOf n d q) (not (largeOf n a q)) y)) in
         (i .0, i .1, i .2, label-d q l ∙ i .3);
-    groups = λ i lo hi. let x = g .logged .named i lo hi in board′ .groups (x .0) (plane n 7 d i) (x .1) (label-d (x .0) (x .1) ∙ x .2);
+    groups = λ i lo hi. let x = g .logged .named i lo hi in sheet′ .groups (x .0) (plane n 7 d i) (x .1) (label-d (x .0) (x .1) ∙ x .2);
   }

@@ -3,6 +3,7 @@ pub mod Regions
 pub mod LabelledSheets
 pub mod Cleaning
 pub mod AtStart
+pub mod Parts
 pub mod AllJudged
 pub mod Applying
 pub mod Following

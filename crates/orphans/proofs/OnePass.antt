@@ -12,7 +12,8 @@ use Rattle.grid.specs.Steps.{hood}
 use Rattle.grid.proofs.Places.{hood-symmetric}
 use Rattle.verdicts.specs.Judging.{ruleOf}
 use Rattle.frontier.specs.Growing.{Decided, Grew}
-use Rattle.orphans.specs.Passing.{BetweenPasses, AllJudged, TargetsTaken, PassMade}
+use Rattle.orphans.specs.Passing.{BetweenPasses, PassMade}
+use Rattle.orphans.proofs.Parts.{AllJudged, TargetsTaken}
 use Rattle.orphans.proofs.Applying.{passed}
 use Rattle.orphans.proofs.Following.{at-frontier}
 use Rattle.orphans.proofs.Spreading.{decided, targets-taken, grown-to}
@@ -34,7 +35,7 @@ module _ (h w steps k limit : ℕ) (palette : List Float) (reach : Float) {a b :
 
   symm : Symmetric (rule .adj)
   unfolding ruleOf
-  symm = hood-symmetric steps (rest .stage .board .ways) w
+  symm = hood-symmetric steps (rest .stage .sheet .ways) w
 
   size : rule .places ≡ h * w
   unfolding ruleOf

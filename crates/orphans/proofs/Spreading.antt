@@ -14,7 +14,8 @@ use Rattle.verdicts.specs.Judging.{stateOf, code}
 use Rattle.frontier.specs.Growing.{Decided, Grew}
 use Rattle.frontier.proofs.Gains.{gained-paint}
 use Rattle.frontier.proofs.Outcome.{met-decided, grown-flags, grown-log, kept-planes, grown-unmarked}
-use Rattle.orphans.specs.Passing.{BetweenPasses, AllJudged, TargetsTaken, GrownTo}
+use Rattle.orphans.specs.Passing.{BetweenPasses}
+use Rattle.orphans.proofs.Parts.{AllJudged, TargetsTaken, GrownTo}
 
 -- b was judged in a pass from a
 module _ (rule : Rule) (symm : Symmetric (rule .adj)) (h w steps k : ℕ) (is : rule .places ≡ h * w) (ways : (p q : ℕ) → rule .adj p q ≡ hood steps w p q) (a b : List ℕ) (end mid : ℕ) (rest : BetweenPasses rule h w steps k end a)

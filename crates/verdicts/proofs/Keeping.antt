@@ -1,4 +1,4 @@
--- What a poll leaves of the board. Assumes nothing.
+-- What a poll leaves of the sheet. Assumes nothing.
 use Prim.Native.Nat.{ℕ, zero, suc, _*_, _≤_, _<_}
 use mathlib.Core.Path.{_≡_, refl, sym, ap, _∙_}
 use mathlib.Core.List.{List}

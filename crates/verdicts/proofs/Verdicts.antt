@@ -52,7 +52,7 @@ code-acts stay h e = ⊎-elim (λ y. clash y refl) (λ y. clash y refl) h
 code-acts (merge c d) h e = omega arith
 code-acts (freeze c d) h e = omega arith
 
-module _ (h w steps limit : ℕ) (palette : List Float) (reach : Float) (a : List ℕ) (board : GroupedSheet h w steps a) (sound : Sound (ruleOf h w steps limit palette reach) (h * w) a) where
+module _ (h w steps limit : ℕ) (palette : List Float) (reach : Float) (a : List ℕ) (sheet : GroupedSheet h w steps a) (sound : Sound (ruleOf h w steps limit palette reach) (h * w) a) where
   abbrev n : ℕ
   n = h * w
 
@@ -73,7 +73,7 @@ module _ (h w steps limit : ℕ) (palette : List Float) (reach : Float) (a : Lis
 
   sym-rule : Symmetric (rule .adj)
   unfolding ruleOf
-  sym-rule = hood-symmetric steps (board .ways) w
+  sym-rule = hood-symmetric steps (sheet .ways) w
 
   pub grouped : Grouped rule s group
   unfolding ruleOf stateOf
@@ -90,7 +90,7 @@ module _ (h w steps limit : ℕ) (palette : List Float) (reach : Float) (a : Lis
   Beside t q = (i : ℕ) × (endOf n a t ≤ i) × (i < endOf n a (suc t)) × (hood steps w (plane n 2 a i) q ≡ true)
 
   pub paints : (q : ℕ) → q < n → (plane n 5 a q ≡ 0 → ⊥) → (1 ≤ plane n 0 a q) × (plane n 0 a q ≤ 256)
-  paints q l z = (board .large q l z, board .paint q l)
+  paints q l z = (sheet .large q l z, sheet .paint q l)
 
   module _ (t : ℕ) (g : Group n a t) where
     abbrev lead : ℕ
@@ -206,7 +206,7 @@ module _ (h w steps limit : ℕ) (palette : List Float) (reach : Float) (a : Lis
             (eqb-yes (left (eqb (group x) (group (p .0))) (adj (p .0) q) (p .2))) (right (eqb (group x) (group (p .0))) (adj (p .0) q) (p .2)) (left (large rule cells q) (any n (near q)) v)) z
 
         -- all voters have one paint: the verdict is by that index
-        pub agreed-fate : (v : ℕ) → OnePaint h w steps (board .ways) a paints (endOf n a t) (endOf n a (suc t)) v → decision (Index (v - 1) (apart palette (plane n 0 a lead - 1) (v - 1))) reach ≡ code (fate (fates rule s) x)
+        pub agreed-fate : (v : ℕ) → OnePaint h w steps (sheet .ways) a paints (endOf n a t) (endOf n a (suc t)) v → decision (Index (v - 1) (apart palette (plane n 0 a lead - 1) (v - 1))) reach ≡ code (fate (fates rule s) x)
         unfolding ruleOf
         agreed-fate v u =
             let q = u .place in
@@ -269,7 +269,7 @@ module _ (h w steps limit : ℕ) (palette : List Float) (reach : Float) (a : Lis
     judged-big z = record { kept = kept-none n a; large = λ q l. refl; marks = λ q l. inl refl; done = λ y. refl; little = λ y. absurd (y refl); right = λ y x l e. stays-big x l e z }
 
     -- one paint is all that large neighbours have; `from`, `to` and `paint` are as they were read
-    pub judged-agreed : (from to : ℕ) → from ≡ endOf n a t → to ≡ endOf n a (suc t) → plane n 6 a t ≡ 0 → plane n 5 a lead ≡ 0 → (k : ℕ) → Indexed n k a → (v : ℕ) → OnePaint h w steps (board .ways) a paints from to v →
+    pub judged-agreed : (from to : ℕ) → from ≡ endOf n a t → to ≡ endOf n a (suc t) → plane n 6 a t ≡ 0 → plane n 5 a lead ≡ 0 → (k : ℕ) → Indexed n k a → (v : ℕ) → OnePaint h w steps (sheet .ways) a paints from to v →
         (paint : ℕ) → paint ≡ plane n 0 a lead → (r : ℕ) → r ≡ decision (Index (v - 1) (apart palette (paint - 1) (v - 1))) reach → Judged rule n t a a r
     judged-agreed from to ef et z y k known v u paint ep r e =
         record {
@@ -313,5 +313,5 @@ module _ (h w steps limit : ℕ) (palette : List Float) (reach : Float) (a : Lis
     judged-silent from to ef et z y k known fresh none =
         judged-at from to ef et z y k known a (replicate 256 0) fresh
         (polled-still n (t + 2) (λ x. omega arith) a (replicate 256 0) (tally-new n (t + 2) a fresh)
-        (λ q l b large. absurd (large (none (b .0) (b .1) (b .2) q (hood-in h w steps (board .ways) (plane n 2 a (b .0)) q l (b .3))))))
+        (λ q l b large. absurd (large (none (b .0) (b .1) (b .2) q (hood-in h w steps (sheet .ways) (plane n 2 a (b .0)) q l (b .3))))))
         (plane n 0 a lead) refl 0 (choice-none _ (replicate 256 0) k 0 reach (peak-none k (known .few)) refl)

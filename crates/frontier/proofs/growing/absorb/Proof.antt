@@ -23,7 +23,7 @@ use Rattle.frontier.proofs.growing.absorb.Statement.{statement}
 use Rattle.frontier.proofs.growing.absorb.Tie as tie
 
 few : (s : tie.Start) → s .args .h * s .args .w ≤ 264196
-few s = area _ _ (s .pre .0 .0 .board .rows) (s .pre .0 .0 .board .cols)
+few s = area _ _ (s .pre .0 .0 .sheet .rows) (s .pre .0 .0 .sheet .cols)
 
 mul-n : tie.Need-mul-n
 mul-n c = omega (arith, few (c .before))
@@ -32,7 +32,7 @@ reached-requires : tie.Need-reached-requires
 reached-requires c κs =
     let s = c .before in
     let p = s .pre .1 in
-    ((s .pre .0 .1, s .pre .0 .0 .board .rows, s .pre .0 .0 .board .cols), (rw (toZ-ofZ (s .fits .dy)) (p .0), rw (toZ-ofZ (s .fits .dx)) (p .1), p .2))
+    ((s .pre .0 .1, s .pre .0 .0 .sheet .rows, s .pre .0 .0 .sheet .cols), (rw (toZ-ofZ (s .fits .dy)) (p .0), rw (toZ-ofZ (s .fits .dx)) (p .1), p .2))
 
 enum-known-q : tie.Need-enum-known-q
 enum-known-q c = search needs
@@ -88,7 +88,7 @@ pub record Sizes (c : tie.After-q) : Type 0 where
 sizes : (c : tie.After-q) → Sizes c
 sizes c =
     let s = start c in
-    record { few = few s; room = s .pre .0 .0 .board .room; inside = step-sound _ _ _ _ _ _ _ (cell c) .inside }
+    record { few = few s; room = s .pre .0 .0 .sheet .room; inside = step-sound _ _ _ _ _ _ _ (cell c) .inside }
 
 mul-own : tie.Need-mul-own
 mul-own c = omega (arith, sizes (c .before))
@@ -145,7 +145,7 @@ label-fits c =
     let v = getD (s .args .work .now) (n c + q c) 0 in
     elim (ℕ-discrete v 0) [
       | yes e ↦ omega arith
-      | no z ↦ (let g = s .pre .0 .0 .board .groups (q c) (v - 1) (sizes c .inside) (sym (label-is c) ∙ omega arith) in omega (arith, g .label, sizes c))
+      | no z ↦ (let g = s .pre .0 .0 .sheet .groups (q c) (v - 1) (sizes c .inside) (sym (label-is c) ∙ omega arith) in omega (arith, g .label, sizes c))
     ]
 
 cast-label : tie.Need-cast-label
@@ -179,7 +179,7 @@ found-group c =
       label = e;
       little = l;
       paint = sym (paint-is r) ∙ c .before .before .before .before .if1 .left;
-      low = s .pre .0 .0 .board .groups (q r) (at-q r) (sizes r .inside) e .label;
+      low = s .pre .0 .0 .sheet .groups (q r) (at-q r) (sizes r .inside) e .label;
       room = grown-room (s .args .h) (s .args .w) (s .args .steps) (s .args .end) (s .args .work .now) (s .pre .0 .0) (q r) (at-q r) (sizes r .inside) e l;
     }
 
@@ -192,7 +192,7 @@ set-region-requires c κs =
     let r = named-q o in
     let s = start r in
     let z = sizes r in
-    (s .pre .0 .0 .board .groups (q r) (at-q r) (z .inside) (found-group o .label), (z .room, z .few, omega arith, inr (omega arith)))
+    (s .pre .0 .0 .sheet .groups (q r) (at-q r) (z .inside) (found-group o .label), (z .room, z .few, omega arith, inr (omega arith)))
 
 abbrev after-set : tie.After-slice-known5 → tie.After-set-region
 after-set c = c .before .before

@@ -28,7 +28,7 @@ abbrev μ-loop : tie.MeasureT-loop
 μ-loop work₀ h w steps from to n last₀ i₀ work last i = to - i
 
 few : (s : tie.Start Inv-loop μ-loop) → s .args .h * s .args .w ≤ 264196
-few s = area _ _ (s .pre .0 .board .rows) (s .pre .0 .board .cols)
+few s = area _ _ (s .pre .0 .sheet .rows) (s .pre .0 .sheet .cols)
 
 mul-n : tie.Need-mul-n Inv-loop μ-loop
 mul-n c = omega (arith, few (c .before))
@@ -69,7 +69,7 @@ bounds c =
       few = few s;
       turn = t;
       on = omega (arith, s .pre .0 .room);
-      room = rw (u .gained .len) (s .pre .0 .board .room);
+      room = rw (u .gained .len) (s .pre .0 .sheet .room);
       is = e;
       group = g;
       label = g .label;

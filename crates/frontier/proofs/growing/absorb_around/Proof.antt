@@ -41,7 +41,7 @@ pub record Sizes (s : tie.Start Inv-loop μ-loop) : Type 0 where
 
 sizes : (s : tie.Start Inv-loop μ-loop) → Sizes s
 sizes s =
-    let b = s .pre .0 .board in
+    let b = s .pre .0 .sheet in
     let g = s .pre .1 in
     record { few = area _ _ (b .rows) (b .cols); room = b .room; label = g .label; some = g .some; end = g .end }
 

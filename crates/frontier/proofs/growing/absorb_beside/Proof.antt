@@ -35,7 +35,7 @@ pub record Sizes (s : tie.Start Inv-loop μ-loop) : Type 0 where
   pub inside : s .args .p < s .args .h * s .args .w
 
 sizes : (s : tie.Start Inv-loop μ-loop) → Sizes s
-sizes s = let b = s .pre .0 .board in record { few = area _ _ (b .rows) (b .cols); room = b .room; inside = s .pre .1 }
+sizes s = let b = s .pre .0 .sheet in record { few = area _ _ (b .rows) (b .cols); room = b .room; inside = s .pre .1 }
 
 mul-paint : tie.Need-mul-paint Inv-loop μ-loop
 mul-paint c = omega (arith, sizes (c .before))
@@ -44,7 +44,7 @@ slice-read-paint : tie.Need-slice-read-paint Inv-loop μ-loop
 slice-read-paint c = omega (arith, sizes (c .before .before))
 
 on-border-requires : tie.Need-on-border-requires Inv-loop μ-loop
-on-border-requires c κs = let s = c .before .before in (s .pre .1, s .pre .0 .board .rows, s .pre .0 .board .cols)
+on-border-requires c κs = let s = c .before .before in (s .pre .1, s .pre .0 .sheet .rows, s .pre .0 .sheet .cols)
 
 loop-holds : tie.Need-loop-holds Inv-loop μ-loop
 loop-holds c =
@@ -58,7 +58,7 @@ abbrev start : tie.In-loop Inv-loop μ-loop → tie.Start Inv-loop μ-loop
 start c = c .before .before .before .before .before
 
 s-small : (c : tie.In-loop Inv-loop μ-loop) → c .before .loop .s < 8
-s-small c = step-few (start c .args .steps) (start c .pre .0 .board .ways) (c .before .loop .s) (c .loop-test .taken)
+s-small c = step-few (start c .args .steps) (start c .pre .0 .sheet .ways) (c .before .loop .s) (c .loop-test .taken)
 
 mul-o : tie.Need-mul-o Inv-loop μ-loop
 mul-o c = omega (arith, s-small c)
@@ -128,8 +128,8 @@ returns c =
     let s = c .before .before .before .before .before in
     let u = c .before .loop .inv in
     gained-same
-    (λ q l z. (hood-sound (s .args .steps) (s .pre .0 .board .ways) (s .args .h) (s .args .w) (s .args .p) (z .0 .0) q (omega (arith, z .0 .1, u .1)) (z .0 .2), z .1))
-    (λ q l z. let f = hood-complete (s .args .steps) (s .pre .0 .board .ways) (s .args .h) (s .args .w) (s .args .p) q l (z .0) in ((f .0, omega (arith, f .1, c .loop-test .left), f .2), z .1))
+    (λ q l z. (hood-sound (s .args .steps) (s .pre .0 .sheet .ways) (s .args .h) (s .args .w) (s .args .p) (z .0 .0) q (omega (arith, z .0 .1, u .1)) (z .0 .2), z .1))
+    (λ q l z. let f = hood-complete (s .args .steps) (s .pre .0 .sheet .ways) (s .args .h) (s .args .w) (s .args .p) q l (z .0) in ((f .0, omega (arith, f .1, c .loop-test .left), f .2), z .1))
     (u .0)
 
 pub absorb-beside-spec : {M : Type 1} → statement M

@@ -8,7 +8,7 @@ use Rattle.frontier.proofs.growing.grow.Statement.{statement}
 use Rattle.frontier.proofs.growing.grow.Tie as tie
 
 few : (s : tie.Start) → s .args .h * s .args .w ≤ 264196
-few s = area _ _ (s .pre .board .rows) (s .pre .board .cols)
+few s = area _ _ (s .pre .sheet .rows) (s .pre .sheet .cols)
 
 mul-n : tie.Need-mul-n
 mul-n c = omega (arith, few (c .before))
@@ -17,7 +17,7 @@ repaint-all-requires : tie.Need-repaint-all-requires
 repaint-all-requires c κs =
     let s = c .before .before in
     let d = s .pre in
-    ((d .board .room, few s, omega (arith, d .room)), (λ i l m. (d .groups i l m, omega (arith, d .numbers i l m .0))))
+    ((d .sheet .room, few s, omega (arith, d .room)), (λ i l m. (d .groups i l m, omega (arith, d .numbers i l m .0))))
 
 absorb-all-requires : tie.Need-absorb-all-requires
 absorb-all-requires c κs =

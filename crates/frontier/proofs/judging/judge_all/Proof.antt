@@ -26,7 +26,7 @@ ruled s = ruleOf (s .args .h) (s .args .w) (s .args .steps) (s .args .limit) (s 
 
 symm : (s : tie.Start Inv-loop μ-loop) → Symmetric (ruled s .adj)
 unfolding ruleOf
-symm s = hood-symmetric (s .args .steps) (s .pre .0 .0 .board .ways) (s .args .w)
+symm s = hood-symmetric (s .args .steps) (s .pre .0 .0 .sheet .ways) (s .args .w)
 
 sized : (s : tie.Start Inv-loop μ-loop) → ruled s .places ≡ s .args .h * s .args .w
 unfolding ruleOf
@@ -51,7 +51,7 @@ judge-requires c κs =
     let i = c .before in
     let s = start i in
     let st = i .before .loop .inv .0 .stage in (
-      (st .board, group i),
+      (st .sheet, group i),
       (
         stage-room (ruled s) (s .args .h) (s .args .w) (s .args .steps) (s .args .k) (i .before .loop .at) (i .before .loop .end) (i .before .loop .work) st (group i),
         ((st .known, s .pre .0 .1), (st .sound, (λ z. st .unmarked (i .before .loop .at) (group i .label) z))),
@@ -62,7 +62,7 @@ add-at : tie.Need-add-at Inv-loop μ-loop
 add-at c =
     let i = c .before .before .before .before in
     let s = start i in
-    omega (arith, i .loop-test .taken, group i .label, area _ _ (s .pre .0 .0 .board .rows) (s .pre .0 .0 .board .cols))
+    omega (arith, i .loop-test .taken, group i .label, area _ _ (s .pre .0 .0 .sheet .rows) (s .pre .0 .0 .sheet .cols))
 
 loop-less : tie.Need-loop-less Inv-loop μ-loop
 loop-less c = let i = c .before .before .before .before in omega (arith, i .loop-test .taken)

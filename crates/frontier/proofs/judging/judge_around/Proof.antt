@@ -40,7 +40,7 @@ ruled s = ruleOf (s .args .h) (s .args .w) (s .args .steps) (s .args .limit) (s 
 
 symm : (s : tie.Start Inv-loop μ-loop) → Symmetric (ruled s .adj)
 unfolding ruleOf
-symm s = hood-symmetric (s .args .steps) (s .pre .0 .0 .board .ways) (s .args .w)
+symm s = hood-symmetric (s .args .steps) (s .pre .0 .0 .sheet .ways) (s .args .w)
 
 sized : (s : tie.Start Inv-loop μ-loop) → ruled s .places ≡ s .args .h * s .args .w
 unfolding ruleOf
@@ -55,7 +55,7 @@ pub record Sizes (s : tie.Start Inv-loop μ-loop) : Type 0 where
 
 sizes : (s : tie.Start Inv-loop μ-loop) → Sizes s
 sizes s =
-    let b = s .pre .0 .0 .board in
+    let b = s .pre .0 .0 .sheet in
     let g = s .pre .1 in
     record { few = area _ _ (b .rows) (b .cols); room = b .room; label = g .label; some = g .some; end = g .end }
 

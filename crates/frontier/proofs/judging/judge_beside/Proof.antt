@@ -29,14 +29,14 @@ ruled s = ruleOf (s .args .h) (s .args .w) (s .args .steps) (s .args .limit) (s 
 
 symm : (s : tie.Start Inv-loop μ-loop) → Symmetric (ruled s .adj)
 unfolding ruleOf
-symm s = hood-symmetric (s .args .steps) (s .pre .0 .0 .board .ways) (s .args .w)
+symm s = hood-symmetric (s .args .steps) (s .pre .0 .0 .sheet .ways) (s .args .w)
 
 sized : (s : tie.Start Inv-loop μ-loop) → ruled s .places ≡ s .args .h * s .args .w
 unfolding ruleOf
 sized s = refl
 
 on-border-requires : tie.Need-on-border-requires Inv-loop μ-loop
-on-border-requires c κs = let s = c .before .before in (s .pre .1, s .pre .0 .0 .board .rows, s .pre .0 .0 .board .cols)
+on-border-requires c κs = let s = c .before .before in (s .pre .1, s .pre .0 .0 .sheet .rows, s .pre .0 .0 .sheet .cols)
 
 loop-holds : tie.Need-loop-holds Inv-loop μ-loop
 loop-holds c =
@@ -50,7 +50,7 @@ abbrev start : tie.In-loop Inv-loop μ-loop → tie.Start Inv-loop μ-loop
 start c = c .before .before .before .before .before
 
 s-small : (c : tie.In-loop Inv-loop μ-loop) → c .before .loop .s < 8
-s-small c = step-few (start c .args .steps) (start c .pre .0 .0 .board .ways) (c .before .loop .s) (c .loop-test .taken)
+s-small c = step-few (start c .args .steps) (start c .pre .0 .0 .sheet .ways) (c .before .loop .s) (c .loop-test .taken)
 
 mul-o : tie.Need-mul-o Inv-loop μ-loop
 mul-o c = omega (arith, s-small c)
@@ -113,7 +113,7 @@ same-length c = c .before .loop .inv .0 .len
 returns : tie.Need-returns Inv-loop μ-loop
 returns c =
     let s = c .before .before .before .before .before in
-    met-fewer (λ l z. let q = hood-complete (s .args .steps) (s .pre .0 .0 .board .ways) (s .args .h) (s .args .w) (s .args .p) (z .place) (z .inside) (z .named) in
+    met-fewer (λ l z. let q = hood-complete (s .args .steps) (s .pre .0 .0 .sheet .ways) (s .args .h) (s .args .w) (s .args .p) (z .place) (z .inside) (z .named) in
     record { place = z .place; named = (q .0, omega (arith, q .1, c .loop-test .left), q .2); inside = z .inside; little = z .little; label = z .label })
     (c .before .loop .inv .0)
 

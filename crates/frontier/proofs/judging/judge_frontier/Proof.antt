@@ -39,14 +39,14 @@ ruled s = ruleOf (s .args .h) (s .args .w) (s .args .steps) (s .args .limit) (s 
 
 symm : (s : tie.Start Inv-loop μ-loop) → Symmetric (ruled s .adj)
 unfolding ruleOf
-symm s = hood-symmetric (s .args .steps) (s .pre .0 .0 .board .ways) (s .args .w)
+symm s = hood-symmetric (s .args .steps) (s .pre .0 .0 .sheet .ways) (s .args .w)
 
 sized : (s : tie.Start Inv-loop μ-loop) → ruled s .places ≡ s .args .h * s .args .w
 unfolding ruleOf
 sized s = refl
 
 few : (s : tie.Start Inv-loop μ-loop) → s .args .h * s .args .w ≤ 264196
-few s = area _ _ (s .pre .0 .0 .board .rows) (s .pre .0 .0 .board .cols)
+few s = area _ _ (s .pre .0 .0 .sheet .rows) (s .pre .0 .0 .sheet .cols)
 
 mul-n : tie.Need-mul-n Inv-loop μ-loop
 mul-n c = omega (arith, few (c .before .before))
@@ -86,7 +86,7 @@ bounds c =
       few = few s;
       turn = t;
       on = omega (arith, s .pre .0 .0 .room);
-      room = rw (u .met .len) (s .pre .0 .0 .board .room);
+      room = rw (u .met .len) (s .pre .0 .0 .sheet .room);
       is = e;
       group = g;
       label = g .label;

@@ -28,7 +28,7 @@ ruled s = ruleOf (s .args .h) (s .args .w) (s .args .steps) (s .args .limit) (s 
 
 symm : (s : tie.Start) → Symmetric (ruled s .adj)
 unfolding ruleOf
-symm s = hood-symmetric (s .args .steps) (s .pre .0 .0 .board .ways) (s .args .w)
+symm s = hood-symmetric (s .args .steps) (s .pre .0 .0 .sheet .ways) (s .args .w)
 
 sized : (s : tie.Start) → ruled s .places ≡ s .args .h * s .args .w
 unfolding ruleOf
@@ -41,7 +41,7 @@ reached-requires : tie.Need-reached-requires
 reached-requires c κs =
     let s = c .before .before in
     let p = s .pre .1 in
-    ((p .0, s .pre .0 .0 .board .rows, s .pre .0 .0 .board .cols), (rw (toZ-ofZ (s .fits .dy)) (p .1), rw (toZ-ofZ (s .fits .dx)) (p .2), p .3))
+    ((p .0, s .pre .0 .0 .sheet .rows, s .pre .0 .0 .sheet .cols), (rw (toZ-ofZ (s .fits .dy)) (p .1), rw (toZ-ofZ (s .fits .dx)) (p .2), p .3))
 
 abbrev start : tie.After-reached → tie.Start
 start c = c .before .before .before
@@ -76,7 +76,7 @@ pub record Sizes (c : tie.After-q) : Type 0 where
 sizes : (c : tie.After-q) → Sizes c
 sizes c =
     let s = at-step c in
-    record { few = area _ _ (s .pre .0 .0 .board .rows) (s .pre .0 .0 .board .cols); room = s .pre .0 .0 .board .room; inside = step-sound _ _ _ _ _ _ _ (cell c) .inside }
+    record { few = area _ _ (s .pre .0 .0 .sheet .rows) (s .pre .0 .0 .sheet .cols); room = s .pre .0 .0 .sheet .room; inside = step-sound _ _ _ _ _ _ _ (cell c) .inside }
 
 mul-n : tie.Need-mul-n
 mul-n c = omega (arith, sizes (c .before))
@@ -126,7 +126,7 @@ label-fits c =
     let v = getD (s .args .work .now) (n + c .q .given .0 .0) 0 in
     elim (ℕ-discrete v 0) [
       | yes e ↦ omega arith
-      | no z ↦ (let g = s .pre .0 .0 .board .groups (c .q .given .0 .0) (v - 1) (sizes c .inside) (sym (label-is c) ∙ omega arith) in omega (arith, g .label, sizes c))
+      | no z ↦ (let g = s .pre .0 .0 .sheet .groups (c .q .given .0 .0) (v - 1) (sizes c .inside) (sym (label-is c) ∙ omega arith) in omega (arith, g .label, sizes c))
     ]
 
 cast-label : tie.Need-cast-label
@@ -147,7 +147,7 @@ labelled : (c : tie.Else2) → let q = asked (c .before .before) in let s = at-s
 labelled c = let q = asked (c .before .before) in sym (label-is q) ∙ omega (arith, c .if2 .left)
 
 group : (c : tie.Else2) → let q = asked (c .before .before) in let s = at-step q in Group (s .args .h * s .args .w) (s .args .work .now) (getD (s .args .work .now) (s .args .h * s .args .w + q .q .given .0 .0) 0 - 1)
-group c = let q = asked (c .before .before) in at-step q .pre .0 .0 .board .groups (q .q .given .0 .0) _ (sizes q .inside) (labelled c)
+group c = let q = asked (c .before .before) in at-step q .pre .0 .0 .sheet .groups (q .q .given .0 .0) _ (sizes q .inside) (labelled c)
 
 judge-requires : tie.Need-judge-requires
 judge-requires c κs =
@@ -155,7 +155,7 @@ judge-requires c κs =
     let q = asked (o .before .before) in
     let s = at-step q in
     let st = s .pre .0 .0 in (
-      (st .board, group o),
+      (st .sheet, group o),
       (
         stage-room (ruled s) (s .args .h) (s .args .w) (s .args .steps) (s .args .k) _ (s .args .end) (s .args .work .now) st (group o),
         ((st .known, s .pre .0 .1), (st .sound, (λ z. st .unmarked _ (group o .label) z))),

@@ -4,7 +4,8 @@ use borrow.Author.Needs.{needs}
 use Rattle.verdicts.specs.Judging.{ruleOf}
 use Rattle.orphans.proofs.AtStart.{start-between, groups-at-start}
 use Rattle.orphans.proofs.AllJudged.{first-all-judged}
-use Rattle.orphans.specs.Passing.{BetweenPasses, AllJudged}
+use Rattle.orphans.specs.Passing.{BetweenPasses}
+use Rattle.orphans.proofs.Parts.{AllJudged}
 use Rattle.orphans.proofs.OnePass.{made-idle, made-decided, made-on}
 use Rattle.orphans.proofs.passing.first_pass.Statement.{statement}
 use Rattle.orphans.proofs.passing.first_pass.Tie as tie

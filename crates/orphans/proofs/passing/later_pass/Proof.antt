@@ -3,7 +3,8 @@ use native.Mathlib.Omega.{arith}
 use borrow.Author.Needs.{needs}
 use Rattle.verdicts.specs.Judging.{ruleOf}
 use Rattle.orphans.proofs.AllJudged.{frontier-all-judged}
-use Rattle.orphans.specs.Passing.{BetweenPasses, AllJudged}
+use Rattle.orphans.specs.Passing.{BetweenPasses}
+use Rattle.orphans.proofs.Parts.{AllJudged}
 use Rattle.orphans.proofs.OnePass.{made-idle, made-decided, made-on}
 use Rattle.orphans.proofs.passing.later_pass.Statement.{statement}
 use Rattle.orphans.proofs.passing.later_pass.Tie as tie
