@@ -248,6 +248,15 @@ one c =
     let s = start e in
     one-paint (s .args .h) (s .args .w) (s .args .steps) (s .pre .0 .0 .ways) (s .args .work .now) _ (from e) (to e) (c .before .agreed .result) (omega (arith, run e .some)) (c .before .agreed .ensures) (c .if4 .taken)
 
+returns-4 : tie.Need-returns-4
+returns-4 c =
+    let o = voted (own (c .before .before)) in
+    let e = found o in
+    let s = start e in
+    let r = run e in
+    judged-agreed (s .args .h) (s .args .w) (s .args .steps) (s .args .limit) (s .args .palette .now) (s .args .max-delta) (s .args .work .now) (s .pre .0 .0) (s .pre .1 .1 .0) (s .args .at) (s .pre .0 .1)
+    (from e) (to e) (r .from-is) (r .to-is) (unnumbered e) (little o) (s .args .k) (s .pre .1 .0 .0) (c .before .before .agreed .result) (one (c .before)) _ (paint e .is) _ (c .only-choice .ensures)
+
 -- it is that of a place
 paint-below : (c : tie.Then4) → c .before .agreed .result ≤ start (found (voted (own (c .before)))) .args .k
 paint-below c = let s = start (found (voted (own (c .before)))) in let o = one c in omega (arith, o .same (o .place) (o .inside) (o .beside) (o .big), s .pre .1 .0 .0 .below (o .place) (o .inside))
@@ -263,15 +272,6 @@ only-choice-requires c κs =
 
 same-length-3 : tie.Need-same-length-3
 same-length-3 c = search needs
-
-returns-4 : tie.Need-returns-4
-returns-4 c =
-    let o = voted (own (c .before .before)) in
-    let e = found o in
-    let s = start e in
-    let r = run e in
-    judged-agreed (s .args .h) (s .args .w) (s .args .steps) (s .args .limit) (s .args .palette .now) (s .args .max-delta) (s .args .work .now) (s .pre .0 .0) (s .pre .1 .1 .0) (s .args .at) (s .pre .0 .1)
-    (from e) (to e) (r .from-is) (r .to-is) (unnumbered e) (little o) (s .args .k) (s .pre .1 .0 .0) (c .before .before .agreed .result) (one (c .before)) _ (paint e .is) _ (c .only-choice .ensures)
 
 -- ---- else they are polled
 
