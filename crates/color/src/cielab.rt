@@ -1,6 +1,7 @@
 // CIELAB: the distance of two colours, and the ways to sRGB and back, formula for formula in the order of scikit-image's `rgb2lab` and `lab2rgb`.
 ghost use mathlib.Core.Path.{_≡_};
 ghost use Prim.Native.Nat.{_+_, _*_, _<_};
+ghost use lib.Ieee.{lt};
 ghost use lib.ListN.{length};
 ghost use Rattle.color.specs.Lab.{entry, within, dist2, distance, dot, matVec, labF, labFInv, labOfXyz, xyzOfLab, rgb8ToLab, labToRgb8};
 ghost use Rattle.channel.specs.Channel.{DecodeTable, ThresholdTable};
@@ -75,6 +76,13 @@ pub fn distance(p: Lab, q: Lab) -> f64
     ensures { λ r. ⌜ r ≡ distance p q ⌝ }
 {
     roots::sqrt(dist2(p, q))
+}
+
+// Whether two colours are nearer to one another than `limit`.
+pub fn closer_than(p: Lab, q: Lab, limit: f64) -> bool
+    ensures { λ r. ⌜ r ≡ lt (distance p q) limit ⌝ }
+{
+    roots::sqrt_below(dist2(p, q), limit)
 }
 
 // The product of a row with a vector, summed left to right.
