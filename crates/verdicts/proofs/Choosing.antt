@@ -85,14 +85,6 @@ peak-none k l =
     ⊎-elim sym (λ w. sym (w .3 ∙ getD-replicate 256 (w .0) 0 0 (omega (arith, w .1))))
     (greatest-is k (λ c. true) (λ c. getD (replicate 256 0) c 0))
 
-pub decision-near : (c : ℕ) (d reach : Float) → lt d reach ≡ true → c + 2 ≡ decision (Index c d) reach
-unfolding decision
-decision-near c d reach y = rw y
-
-pub decision-far : (c : ℕ) (d reach : Float) → lt d reach ≡ false → 1 ≡ decision (Index c d) reach
-unfolding decision
-decision-far c d reach y = rw y
-
 pub decision-none : (reach : Float) → 0 ≡ decision Nothing reach
 unfolding decision
 decision-none reach = refl

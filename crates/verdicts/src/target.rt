@@ -1,8 +1,10 @@
 // Which index a region takes, from the votes that each index has.
+use color::cielab::closer_than;
 use color::cielab::distance;
 use color::cielab::entry;
 ghost use mathlib.Core.Path.{_≡_};
-ghost use Prim.Native.Nat.{_≤_, _<_};
+ghost use mathlib.Core.Bool.{cond};
+ghost use Prim.Native.Nat.{_+_, _≤_, _<_};
 ghost use lib.ListN.{length};
 ghost use Rattle.verdicts.specs.Choice.{apart, peak, nearer, nearest, decision, choice};
 ghost use Rattle.verdicts.specs.declared.target.Target.the-variants.{Index};
@@ -55,12 +57,12 @@ fn nearest(counts: &[u32; 256], m: u32, palette: &[f64], k: usize, own: usize) -
     best
 }
 
-// What a target c at the distance d gives a region: c + 2 it takes the index c, 1 it is frozen.
-fn decide(c: usize, d: f64, max_delta: f64) -> u32
+// What a target c gives a region: c + 2 it takes the index c, if that is near enough, else 1, it is frozen.
+fn decide(c: usize, near: bool) -> u32
     requires { ⌜ c < 256 ⌝ }
-    ensures { λ r. ⌜ r ≡ decision (Index c d) «max_delta» ⌝ }
+    ensures { λ r. ⌜ r ≡ cond near (c + 2) 1 ⌝ }
 {
-    if d < max_delta {
+    if near {
         return c as u32 + 2;
     }
     1
@@ -71,8 +73,8 @@ pub fn only_choice(palette: &[f64], own: usize, c: usize, max_delta: f64) -> u32
     requires { ⌜ (own < 256) × (c < 256) × (length (now palette) ≡ 768) ⌝ }
     ensures { λ r. ⌜ r ≡ decision (Index c (apart (now (palette .entry)) own c)) «max_delta» ⌝ }
 {
-    let d = distance(entry(palette, own), entry(palette, c));
-    decide(c, d, max_delta)
+    let near = closer_than(entry(palette, own), entry(palette, c), max_delta);
+    decide(c, near)
 }
 
 // What becomes of a region of the index `own` with these votes: 0 it stays, 1 it is frozen, c + 2 it takes the index c.
@@ -87,5 +89,5 @@ pub fn choice(counts: &[u32; 256], palette: &[f64], k: usize, own: usize, max_de
     let Target::Index(c, d) = nearest(counts, m, palette, k, own) else {
         return 0;
     };
-    decide(c, d, max_delta)
+    decide(c, d < max_delta)
 }

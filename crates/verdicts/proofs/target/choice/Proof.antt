@@ -54,6 +54,7 @@ decide-requires : tie.Need-decide-requires
 decide-requires c κs = few (c .before)
 
 returns-3 : tie.Need-returns-3
+unfolding decision
 returns-3 c =
     let a = c .before .before in
     c .decide .ensures ∙ chosen (a .before .before) (Index (a .c .given .0 .0) (a .c .given .0 .1 .0)) (sym (a .c .given .1))

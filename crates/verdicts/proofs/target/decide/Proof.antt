@@ -1,14 +1,13 @@
 -- `verdicts::target::decide`. Assumes nothing.
 use borrow.Author.Needs.{needs}
-use Rattle.verdicts.proofs.Choosing.{decision-near, decision-far}
 use Rattle.verdicts.proofs.target.decide.Statement.{statement}
 use Rattle.verdicts.proofs.target.decide.Tie as tie
 
 returns : tie.Need-returns
-returns c = let s = c .before in decision-near (s .args .c) (s .args .d) (s .args .max-delta) (c .if1 .taken)
+returns c = rw (c .if1 .taken)
 
 returns-2 : tie.Need-returns-2
-returns-2 c = let s = c .before in decision-far (s .args .c) (s .args .d) (s .args .max-delta) (c .if1 .left)
+returns-2 c = rw (c .if1 .left)
 
 cast-result : tie.Need-cast-result
 cast-result c = search needs

@@ -1,20 +1,22 @@
 -- `verdicts::target::only_choice`. Assumes nothing.
 use mathlib.Core.Path.{ap, ap₂, _∙_}
+use mathlib.Core.Bool.{Bool, cond}
+use Prim.Native.Nat.{_+_}
 use borrow.Author.Needs.{needs}
-use lib.Ieee.{Float}
+use lib.Ieee.{lt}
+use Rattle.color.specs.declared.Lab.{Lab}
 use Rattle.color.specs.Lab.{distance}
-use Rattle.verdicts.specs.declared.target.Target.the-variants.{Index}
 use Rattle.verdicts.specs.Choice.{apart, decision}
 use Rattle.verdicts.proofs.target.only_choice.Statement.{statement}
 use Rattle.verdicts.proofs.target.only_choice.Tie as tie
 
 returns : tie.Need-returns
-unfolding apart
+unfolding apart decision
 returns c =
     let d = c .before in
     let e = d .before in
     let s = e .before .before .before in
-    c .decide .ensures ∙ ap (λ (x : Float). decision (Index (s .args .c) x) (s .args .max-delta)) (d .distance .ensures ∙ ap₂ distance (e .before .entry .ensures) (e .entry2 .ensures))
+    c .decide .ensures ∙ ap (λ (b : Bool). cond b (s .args .c + 2) 1) (d .closer-than .ensures ∙ ap₂ (λ (p q : Lab). lt (distance p q) (s .args .max-delta)) (e .before .entry .ensures) (e .entry2 .ensures))
 
 entry-requires : tie.Need-entry-requires
 entry-requires c κs = search needs
@@ -22,8 +24,8 @@ entry-requires c κs = search needs
 entry-requires-2 : tie.Need-entry-requires-2
 entry-requires-2 c κs = search needs
 
-distance-requires : tie.Need-distance-requires
-distance-requires c κs = search needs
+closer-than-requires : tie.Need-closer-than-requires
+closer-than-requires c κs = search needs
 
 decide-requires : tie.Need-decide-requires
 decide-requires c κs = search needs
@@ -34,6 +36,6 @@ only-choice-spec =
     (tie.spec
     entry-requires
     entry-requires-2
-    distance-requires
+    closer-than-requires
     decide-requires
     returns)
