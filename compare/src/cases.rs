@@ -768,6 +768,18 @@ pub fn lasting(rng: &mut Rng, number: usize) -> Sheet {
     }
 }
 
+// ---------------------------------------------------------------------------------- colour limits
+
+/// A cell beside a large region; the colour limit is the distance of the two, or so many doubles away.
+pub fn at_the_limit(rng: &mut Rng) -> Call {
+    let scale = rng.pick(&[2048.0, 60.0, 60.0, 1.0, 1e-8, 1e-153, 1e-160, 1e-162]);
+    let palette: Vec<f64> = (0..6).map(|_| scale * rng.between(-0.5, 0.5)).collect();
+    let distance = color::palette_distance_matrix(&palette)[1].to_bits();
+    let away = rng.pick(&[0, 0, 1, 1, 2, 1 << 26, (1 << 27) - 1, 1 << 27, 1 << 28, 1 << 51, 1 << 52]);
+    let limit = if rng.once_in(2) { distance + away } else { distance.saturating_sub(away) };
+    orphans_call(&[0, 0, 1], 1, 3, &palette, 2, 1, f64::from_bits(limit).min(1024.0))
+}
+
 // ---------------------------------------------------------------------------------- named calls
 
 fn orphans_call(

@@ -371,6 +371,15 @@ fn many_passes(tally: &mut Tally, count: usize) {
     tally.report("run, many passes");
 }
 
+/// Colour limits at and about the distance that decides.
+fn colour_limits(tally: &mut Tally, count: usize) {
+    let rng = &mut Rng(4000);
+    for _ in 0..count {
+        tally.compare(&cases::at_the_limit(rng));
+    }
+    tally.report("remove_orphans, colour limits");
+}
+
 /// Every damage alone, which has to be refused by its row, and all pairs of them.
 fn damaged(tally: &mut Tally) {
     for (entry, name) in ENTRIES {
@@ -410,6 +419,7 @@ pub fn all(count: usize) -> usize {
     damaged(tally);
     random_calls(tally, count);
     many_passes(tally, count);
+    colour_limits(tally, count);
     corners(tally);
     small_grids(tally);
     three_by_three(tally);
