@@ -69,22 +69,6 @@ repainted-same f g u = record {
   each = λ q l. ⊎-elim inl (λ w. inr (w .0, w .1, f (w .0) (w .2))) (u .each q l);
 }
 
--- a single group
-pub repainted-one : (n at v : ℕ) (a b c : List ℕ) → RegionSet n at 0 v a b → RegionSet n at 5 1 b c → v + 1 ≡ plane n 6 a at → Repainted n (λ l. l ≡ at) a c
-repainted-one n at v a b c s t e = record {
-  len = t .len ∙ s .len;
-  same = λ j q z y l. t .others j q y l ∙ s .others j q z l;
-  paint = λ q l h f i. ap (λ (x : ℕ). x + 1) (t .others 0 q (λ z. absurd (omega arith)) h ∙ s .new q h (f ∙ ap suc i)) ∙ e ∙ ap (plane n 6 a) (sym i);
-  large = λ q l h f i. t .new q h (label q h ∙ f ∙ ap suc i);
-  each = λ q h. elim (ℕ-discrete (plane n 1 a q) (suc at)) [
-    | yes y ↦ inr (at, y, refl)
-    | no d ↦ inl (t .others 0 q (λ z. absurd (omega arith)) h ∙ s .old q h d, t .old q h (λ y. d (sym (label q h) ∙ y)) ∙ s .others 5 q (λ z. absurd (omega arith)) h)
-  ];
-}
-  where
-    label : (q : ℕ) → q < n → plane n 1 b q ≡ plane n 1 a q
-    label q l = s .others 1 q (λ z. absurd (omega arith)) l
-
 -- one more group
 module _ (n : ℕ) (named : ℕ → Type 0) (a b c : List ℕ) (at : ℕ) (lat : at < n) (u : Repainted n named a b) (v : Repainted n (λ l. l ≡ at) b c) where
   label : (q : ℕ) → q < n → plane n 1 b q ≡ plane n 1 a q

@@ -39,8 +39,14 @@ fn repaint(work: &mut [u32], n: usize, at: usize)
 {
     let number = work[6 * n + at];
     let paint = number - 1;
-    set_region(work, n, at, 0, paint);
-    set_region(work, n, at, 5, 1);
+    let from = region_end(work, n, at) as usize;
+    let next = at + 1;
+    let to = region_end(work, n, next) as usize;
+    for i in from..to {
+        let p = work[2 * n + i] as usize;
+        work[p] = paint;
+        work[5 * n + p] = 1;
+    }
 }
 
 // The groups of the log from `from` on and before `to` are repainted.

@@ -1,73 +1,185 @@
--- `frontier::growing::repaint`: paint, then size. Assumes nothing.
-use Prim.Native.Nat.{_+_, _-_, _*_}
-use mathlib.Core.Path.{_≡_, refl}
-use mathlib.Core.Logic.{inl, inr}
+-- `frontier::growing::repaint`: the places of the group so far. Assumes nothing.
+use Prim.Native.Nat.{ℕ, suc, _+_, _-_, _*_, _≤_, _<_}
+use mathlib.Core.Path.{_≡_, sym, ap, _∙_, subst}
+use native.Mathlib.Numerals.{add-one}
 use native.Mathlib.Omega.{arith}
 use borrow.Author.Needs.{needs}
-use lib.ListN.{getD}
-use Rattle.grid.specs.Planes.{plane}
+use lib.ListN.{length, getD, length-set}
+use Rattle.grid.specs.Planes.{plane, endOf}
 use Rattle.grid.proofs.Planes.{plane-read}
-use Rattle.verdicts.proofs.Keeping.{group-alike}
-use Rattle.frontier.proofs.Repaints.{repainted-one}
+use Rattle.frontier.proofs.Setting.{Turn, group-turn, Repainting, repainting-start, repainting-on, repainting-end}
 use Rattle.frontier.proofs.growing.repaint.Statement.{statement}
 use Rattle.frontier.proofs.growing.repaint.Tie as tie
 
-mul-number : tie.Need-mul-number
+abbrev Inv-loop : tie.InvT-loop
+Inv-loop work₀ n at number paint from next to i₀ work i = Repainting n at paint i work₀ work
+
+abbrev μ-loop : tie.MeasureT-loop
+μ-loop work₀ n at number paint from next to i₀ work i = to - i
+
+mul-number : tie.Need-mul-number Inv-loop μ-loop
 mul-number c = search needs
 
-add-number : tie.Need-add-number
+add-number : tie.Need-add-number Inv-loop μ-loop
 add-number c = let s = c .before in omega (arith, s .pre .1 .0 .label)
 
-mul-number-2 : tie.Need-mul-number-2
+mul-number-2 : tie.Need-mul-number-2 Inv-loop μ-loop
 mul-number-2 c = search needs
 
-slice-read-number : tie.Need-slice-read-number
+slice-read-number : tie.Need-slice-read-number Inv-loop μ-loop
 slice-read-number c = search needs
 
+-- the paint that is written
+abbrev paint : tie.Start Inv-loop μ-loop → ℕ
+paint s = getD (s .args .work .now) (6 * s .args .n + s .args .at) 0 - 1
+
 -- what is read is its number
-number : (s : tie.Start) → getD (s .args .work .now) (6 * s .args .n + s .args .at) 0 ≡ plane (s .args .n) 6 (s .args .work .now) (s .args .at)
+number : (s : tie.Start Inv-loop μ-loop) → getD (s .args .work .now) (6 * s .args .n + s .args .at) 0 ≡ plane (s .args .n) 6 (s .args .work .now) (s .args .at)
 number s = plane-read (s .args .n) 6 (s .args .at) (6 * s .args .n + s .args .at) (s .args .work .now) (omega arith)
 
-sub-paint : tie.Need-sub-paint
+sub-paint : tie.Need-sub-paint Inv-loop μ-loop
 sub-paint c = let s = c .before .before in omega (arith, number s, s .pre .1 .1)
 
-set-region-requires : tie.Need-set-region-requires
-set-region-requires c κs = let s = c .before .before .before in (s .pre .1 .0, (s .pre .0 .0, s .pre .0 .1, omega arith, inl refl))
+region-end-requires : tie.Need-region-end-requires Inv-loop μ-loop
+region-end-requires c κs = let s = c .before .before .before in (omega (arith, s .pre .1 .0 .label), s .pre .0 .0)
 
-set-region-requires-2 : tie.Need-set-region-requires-2
-set-region-requires-2 c κs =
-    let t = c .before .before .before in
-    let s = t .before .before .before .before in
-    let u = t .set-region .ensures in (
-      group-alike (record {
-        label = λ q l. u .others 1 q (λ z. absurd (omega arith)) l;
-        order = λ q l. u .others 2 q (λ z. absurd (omega arith)) l;
-        ends = λ q l. u .others 3 q (λ z. absurd (omega arith)) l;
-      }) (s .args .at) (s .pre .1 .0),
-      (rw (u .len) (s .pre .0 .0), s .pre .0 .1, omega arith, inr (omega arith)),
-    )
+cast-from : tie.Need-cast-from Inv-loop μ-loop
+cast-from c = let s = c .before .before .before .before in let g = s .pre .1 .0 in omega (arith, c .region-end .ensures, g .some, g .end, s .pre .0 .1)
 
-same-length : tie.Need-same-length
-same-length c = search needs
+add-next : tie.Need-add-next Inv-loop μ-loop
+add-next c = let s = c .before .before .before .before in omega (arith, s .pre .1 .0 .label, s .pre .0 .1)
 
-returns : tie.Need-returns
+region-end-requires-2 : tie.Need-region-end-requires-2 Inv-loop μ-loop
+region-end-requires-2 c κs = let s = c .before .before .before .before .before in (omega (arith, s .pre .1 .0 .label), s .pre .0 .0)
+
+abbrev start : tie.After-region-end2 Inv-loop μ-loop → tie.Start Inv-loop μ-loop
+start c = c .before .before .before .before .before .before
+
+from-is : (c : tie.After-region-end2 Inv-loop μ-loop) → c .before .before .region-end .result ≡ endOf (start c .args .n) (start c .args .work .now) (start c .args .at)
+from-is c = c .before .before .region-end .ensures
+
+to-is : (c : tie.After-region-end2 Inv-loop μ-loop) → c .region-end2 .result ≡ endOf (start c .args .n) (start c .args .work .now) (suc (start c .args .at))
+to-is c = c .region-end2 .ensures ∙ ap (endOf (start c .args .n) (start c .args .work .now)) (add-one (start c .args .at))
+
+cast-to : tie.Need-cast-to Inv-loop μ-loop
+cast-to c = let s = start c in omega (arith, to-is c, s .pre .1 .0 .end, s .pre .0 .1)
+
+loop-holds : tie.Need-loop-holds Inv-loop μ-loop
+loop-holds c =
+    let s = start c in
+    subst (λ (x : ℕ). Repainting (s .args .n) (s .args .at) (paint s) x (s .args .work .now) (s .args .work .now)) (sym (from-is c))
+    (repainting-start (s .args .n) (s .args .at) (paint s) (s .args .work .now) (s .pre .1 .0))
+
+abbrev ended : tie.In-loop Inv-loop μ-loop → tie.After-region-end2 Inv-loop μ-loop
+ended c = c .before .before
+
+-- what is read is a place of the group
+pub record Bounds (c : tie.In-loop Inv-loop μ-loop) : Type 0 where
+  pub turn : c .before .loop .i < endOf (start (ended c) .args .n) (start (ended c) .args .work .now) (suc (start (ended c) .args .at))
+  pub few : start (ended c) .args .n ≤ 264196
+  pub room : 8 * start (ended c) .args .n ≤ length (c .before .loop .work)
+  pub read : Turn (start (ended c) .args .n) (c .before .loop .i) (start (ended c) .args .work .now) (c .before .loop .work)
+
+bounds : (c : tie.In-loop Inv-loop μ-loop) → Bounds c
+bounds c =
+    let s = start (ended c) in
+    let u = c .before .loop .inv in
+    let t : c .before .loop .i < endOf (s .args .n) (s .args .work .now) (suc (s .args .at)) = omega (arith, c .loop-test .taken, to-is (ended c)) in
+    record {
+      turn = t;
+      few = s .pre .0 .1;
+      room = rw (u .len) (s .pre .0 .0);
+      read = group-turn (s .args .n) (s .args .at) (c .before .loop .i) (s .args .work .now) (c .before .loop .work) (s .pre .1 .0) (u .low) t
+          (λ q l. u .same 2 q (λ z. absurd (omega arith)) (λ z. absurd (omega arith)) l);
+    }
+
+mul-p : tie.Need-mul-p Inv-loop μ-loop
+mul-p c = omega (arith, bounds c)
+
+add-p : tie.Need-add-p Inv-loop μ-loop
+add-p c = omega (arith, bounds c)
+
+mul-p-2 : tie.Need-mul-p-2 Inv-loop μ-loop
+mul-p-2 c = omega (arith, bounds c)
+
+slice-read-p : tie.Need-slice-read-p Inv-loop μ-loop
+slice-read-p c = omega (arith, bounds (c .before))
+
+cast-p : tie.Need-cast-p Inv-loop μ-loop
+cast-p c = omega (arith, bounds (c .before))
+
+mul-work : tie.Need-mul-work Inv-loop μ-loop
+mul-work c = omega (arith, bounds (c .before))
+
+slice-write-work : tie.Need-slice-write-work Inv-loop μ-loop
+slice-write-work c = omega (arith, bounds (c .before))
+
+mul-work-2 : tie.Need-mul-work-2 Inv-loop μ-loop
+mul-work-2 c = omega (arith, bounds (c .before))
+
+add-work : tie.Need-add-work Inv-loop μ-loop
+add-work c = omega (arith, bounds (c .before))
+
+mul-work-3 : tie.Need-mul-work-3 Inv-loop μ-loop
+mul-work-3 c = omega (arith, bounds (c .before))
+
+slice-write-work-2 : tie.Need-slice-write-work-2 Inv-loop μ-loop
+slice-write-work-2 c = simp length-set (omega (arith, bounds (c .before)))
+
+add-i : tie.Need-add-i Inv-loop μ-loop
+add-i c = omega (arith, bounds (c .before))
+
+loop-less : tie.Need-loop-less Inv-loop μ-loop
+loop-less c = omega (arith, bounds (c .before), c .before .loop-test .taken)
+
+loop-again : tie.Need-loop-again Inv-loop μ-loop
+loop-again c =
+    let i = c .before in
+    let s = start (ended i) in
+    let b = bounds i in
+    repainting-on (s .args .n) (s .args .at) (paint s) (s .args .work .now) (s .pre .1 .0) (i .before .loop .i) (i .before .loop .work) (i .before .loop .inv) (b .turn)
+    _ _ (b .read .place) (b .read .is) (omega arith) (omega (arith, b))
+
+same-length : tie.Need-same-length Inv-loop μ-loop
+same-length c = c .before .loop .inv .len
+
+returns : tie.Need-returns Inv-loop μ-loop
 returns c =
-    let t = c .before .before in
-    let u = t .before .before .before .before in
-    let s = u .before .before .before .before in
-    repainted-one (s .args .n) (s .args .at) (getD (s .args .work .now) (6 * s .args .n + s .args .at) 0 - 1) (s .args .work .now) (u .set-region .last .0) (t .set-region2 .last .0) (u .set-region .ensures) (t .set-region2 .ensures)
-    (omega (arith, number s, s .pre .1 .1))
+    let e = c .before .before in
+    let s = start e in
+    repainting-end (s .args .n) (s .args .at) (paint s) (s .args .work .now) (s .pre .1 .0) (c .before .loop .i) (c .before .loop .work) (c .before .loop .inv)
+    (omega (arith, c .loop-test .left, to-is e)) (omega (arith, number s, s .pre .1 .1))
 
 pub repaint-spec : {M : Type 1} → statement M
 repaint-spec =
     tie.close
     (tie.spec
+    Inv-loop
+    μ-loop
     mul-number
     add-number
     mul-number-2
     slice-read-number
     sub-paint
-    set-region-requires
-    set-region-requires-2
+    region-end-requires
+    cast-from
+    add-next
+    region-end-requires-2
+    cast-to
+    loop-holds
+    mul-p
+    add-p
+    mul-p-2
+    slice-read-p
+    cast-p
+    mul-work
+    slice-write-work
+    mul-work-2
+    add-work
+    mul-work-3
+    slice-write-work-2
+    add-i
+    loop-less
+    loop-again
     same-length
     returns)

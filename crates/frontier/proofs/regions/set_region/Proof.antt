@@ -5,9 +5,8 @@ use mathlib.Core.Logic.{⊎-elim}
 use native.Mathlib.Numerals.{add-one}
 use native.Mathlib.Omega.{arith}
 use lib.ListN.{length, getD}
-use Rattle.grid.specs.Planes.{plane, endOf}
-use Rattle.grid.proofs.Planes.{plane-read}
-use Rattle.frontier.proofs.Setting.{in-plane, RegionSetting, setting-start, setting-on, setting-end}
+use Rattle.grid.specs.Planes.{endOf}
+use Rattle.frontier.proofs.Setting.{in-plane, Turn, group-turn, RegionSetting, setting-start, setting-on, setting-end}
 use Rattle.frontier.proofs.regions.set_region.Statement.{statement}
 use Rattle.frontier.proofs.regions.set_region.Tie as tie
 
@@ -56,29 +55,21 @@ ended c = c .before .before
 -- what is read is a place of the group
 pub record Bounds (c : tie.In-loop Inv-loop μ-loop) : Type 0 where
   pub turn : c .before .loop .i < endOf (start (ended c) .args .n) (start (ended c) .args .work .now) (suc (start (ended c) .args .at))
-  pub on : c .before .loop .i < start (ended c) .args .n
   pub few : start (ended c) .args .n ≤ 264196
   pub room : 8 * start (ended c) .args .n ≤ length (c .before .loop .work)
-  pub is : getD (c .before .loop .work) (2 * start (ended c) .args .n + c .before .loop .i) 0 ≡ plane (start (ended c) .args .n) 2 (start (ended c) .args .work .now) (c .before .loop .i)
-  pub place : getD (c .before .loop .work) (2 * start (ended c) .args .n + c .before .loop .i) 0 < start (ended c) .args .n
+  pub read : Turn (start (ended c) .args .n) (c .before .loop .i) (start (ended c) .args .work .now) (c .before .loop .work)
 
 bounds : (c : tie.In-loop Inv-loop μ-loop) → Bounds c
 bounds c =
     let s = start (ended c) in
-    let n = s .args .n in
-    let i = c .before .loop .i in
     let u = c .before .loop .inv in
-    let g = s .pre .0 in
-    let t : i < endOf n (s .args .work .now) (suc (s .args .at)) = omega (arith, c .loop-test .taken, to-is (ended c)) in
-    let o : i < n = omega (arith, g .end) in
-    let e = plane-read n 2 i (2 * n + i) (c .before .loop .work) (omega arith) ∙ u .others 2 i (λ z. ⊎-elim (λ y. absurd (omega arith)) (λ y. absurd (omega arith)) (s .pre .1 .3)) o in
+    let t : c .before .loop .i < endOf (s .args .n) (s .args .work .now) (suc (s .args .at)) = omega (arith, c .loop-test .taken, to-is (ended c)) in
     record {
       turn = t;
-      on = o;
       few = s .pre .1 .1;
       room = rw (u .len) (s .pre .1 .0);
-      is = e;
-      place = rw e (g .places i (u .low) t .0);
+      read = group-turn (s .args .n) (s .args .at) (c .before .loop .i) (s .args .work .now) (c .before .loop .work) (s .pre .0) (u .low) t
+          (λ q l. u .others 2 q (λ z. ⊎-elim (λ y. absurd (omega arith)) (λ y. absurd (omega arith)) (s .pre .1 .3)) l);
     }
 
 mul-p : tie.Need-mul-p Inv-loop μ-loop
@@ -98,7 +89,7 @@ cast-p c = omega (arith, bounds (c .before))
 
 -- where it is written
 spot : (c : tie.In-loop Inv-loop μ-loop) → start (ended c) .args .j * start (ended c) .args .n + getD (c .before .loop .work) (2 * start (ended c) .args .n + c .before .loop .i) 0 < 8 * start (ended c) .args .n
-spot c = let s = start (ended c) in in-plane (s .args .n) (s .args .j) _ (s .pre .1 .2) (bounds c .place)
+spot c = let s = start (ended c) in in-plane (s .args .n) (s .args .j) _ (s .pre .1 .2) (bounds c .read .place)
 
 add-work : tie.Need-add-work Inv-loop μ-loop
 add-work c = omega (arith, bounds (c .before), spot (c .before))
@@ -121,7 +112,7 @@ loop-again c =
     let s = start (ended i) in
     let b = bounds i in
     setting-on (s .args .n) (s .args .at) (s .args .j) (s .args .v) (s .args .work .now) (s .pre .0) (i .before .loop .i) (i .before .loop .work) (i .before .loop .inv) (b .turn)
-    _ _ (b .is) (omega arith) (omega (arith, b, spot i))
+    _ _ (b .read .place) (b .read .is) (omega arith) (omega (arith, b, spot i))
 
 same-length : tie.Need-same-length Inv-loop μ-loop
 same-length c = c .before .loop .inv .len
