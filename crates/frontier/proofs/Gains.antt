@@ -13,6 +13,7 @@ use Rattle.base.proofs.Counting.{case, clash, both, left, right, not-true, not-
 use Rattle.grid.specs.Planes.{plane}
 use Rattle.grid.proofs.Planes.{plane-same, plane-else, plane-other}
 use Rattle.frontier.specs.Growing.{Logged, Growth, Cause, Gained}
+use Rattle.frontier.proofs.Stages.{big-some}
 use Rattle.frontier.proofs.Growth.{logged-start, logged-step, room-step}
 use Rattle.verdicts.specs.Groups.{GroupedSheet}
 use Rattle.verdicts.specs.Judging.{largeOf}
@@ -97,6 +98,10 @@ gained-start h w steps end near a g f = record {
   kept = λ i l. refl;
   logged = logged-start (h * w) (plane (h * w) 1 a) (largeOf (h * w) a) (largeOf (h * w) a) (plane (h * w) 7 a) end (λ x l. refl);
 }
+
+-- nothing to gain, since no place that `near` names is small
+pub gained-none : (h w steps end : ℕ) (near : ℕ → Type 0) (a : List ℕ) → Growth h w steps end a → ((q : ℕ) → q < h * w → near q → 0 < plane (h * w) 1 a q → plane (h * w) 5 a q ≡ 0 → ⊥) → Gained h w steps near a a end end
+gained-none h w steps end near a g f = gained-start h w steps end near a g (λ q l z y. big-some (h * w) a q (f q l z y))
 
 -- the same places by another name
 pub gained-same : {h w steps : ℕ} {near near′ : ℕ → Type 0} {a b : List ℕ} {from end : ℕ} → ((q : ℕ) → q < h * w → near q → near′ q) → ((q : ℕ) → q < h * w → near′ q → near q) → Gained h w steps near a b from end → Gained h w steps near′ a b from end

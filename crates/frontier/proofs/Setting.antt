@@ -81,6 +81,7 @@ pub record RegionSetting (n at j v i : ℕ) (a b : List ℕ) : Type 0 where
   pub high : i ≤ endOf n a (suc at)
 
 module _ (n at j v : ℕ) (a : List ℕ) (g : Group n a at) where
+  -- before the first turn
   pub setting-start : RegionSetting n at j v (endOf n a at) a a
   setting-start = record {
     len = refl;
@@ -90,6 +91,7 @@ module _ (n at j v : ℕ) (a : List ℕ) (g : Group n a at) where
     high = omega (arith, g .some);
   }
 
+  -- one turn: the store at the place p
   pub setting-on : (i : ℕ) (b : List ℕ) → RegionSetting n at j v i a b → i < endOf n a (suc at) → (x p : ℕ) → p < n → p ≡ plane n 2 a i → x ≡ j * n + p → x < length b → RegionSetting n at j v (i + 1) a (set b x v)
   setting-on i b u li x p lp e f lx = record {
     len = length-set b x v ∙ u .len;
@@ -99,6 +101,7 @@ module _ (n at j v : ℕ) (a : List ℕ) (g : Group n a at) where
     high = omega arith;
   }
 
+  -- after the last turn the group is set
   pub setting-end : (i : ℕ) (b : List ℕ) → RegionSetting n at j v i a b → endOf n a (suc at) ≤ i → RegionSet n at j v a b
   setting-end i b u h = record {
     len = u .len;
@@ -119,6 +122,7 @@ pub record Repainting (n at v i : ℕ) (a b : List ℕ) : Type 0 where
   pub high : i ≤ endOf n a (suc at)
 
 module _ (n at v : ℕ) (a : List ℕ) (g : Group n a at) where
+  -- before the first turn
   pub repainting-start : Repainting n at v (endOf n a at) a a
   repainting-start = record {
     len = refl;
@@ -129,7 +133,7 @@ module _ (n at v : ℕ) (a : List ℕ) (g : Group n a at) where
     high = omega (arith, g .some);
   }
 
-  -- both stores of a turn, at the place p
+  -- one turn: both stores at the place p
   pub repainting-on : (i : ℕ) (b : List ℕ) → Repainting n at v i a b → i < endOf n a (suc at) → (p x : ℕ) → p < n → p ≡ plane n 2 a i → x ≡ 5 * n + p → x < length b → Repainting n at v (i + 1) a (set (set b p v) x 1)
   repainting-on i b u li p x lp e f lx =
       let c = set b p v in
@@ -144,6 +148,7 @@ module _ (n at v : ℕ) (a : List ℕ) (g : Group n a at) where
         high = omega arith;
       }
 
+  -- after the last turn the group is repainted
   pub repainting-end : (i : ℕ) (b : List ℕ) → Repainting n at v i a b → endOf n a (suc at) ≤ i → v + 1 ≡ plane n 6 a at → Repainted n (λ l. l ≡ at) a b
   repainting-end i b u h e = record {
     len = u .len;

@@ -9,9 +9,9 @@ use verdicts::large::region_size;
 ghost use mathlib.Core.Path.{_≡_};
 ghost use mathlib.Core.Bool.{true, false};
 ghost use mathlib.Core.Option.{some};
-ghost use Prim.Native.Nat.{ℕ, suc, _-_, _*_, _/_, _%_, _≤_, _<_};
+ghost use Prim.Native.Nat.{ℕ, suc, _+_, _-_, _*_, _/_, _%_, _≤_, _<_};
 ghost use lib.ListN.{length};
-ghost use Rattle.rules.specs.Grid.{stepTo};
+ghost use Rattle.rules.specs.Grid.{eight, stepTo};
 ghost use Rattle.grid.specs.Steps.{hood, Single, Inner};
 ghost use Rattle.grid.specs.Planes.{plane, endOf};
 ghost use Rattle.verdicts.specs.Groups.{Group};
@@ -100,12 +100,68 @@ fn absorb(
     end + 1
 }
 
-// The groups of its paint beside the place p become large.
+// Whether the cell q is small and of the paint.
+fn small_at(work: &[u32], n: usize, q: usize, paint: u32) -> bool
+    requires { ⌜ (8 * n ≤ length (now work)) × (n ≤ 264196) × (q < n) ⌝ }
+    ensures { λ r. ⌜ (r ≡ false → plane n 0 (now (work .entry)) q ≡ paint → plane n 5 (now (work .entry)) q ≡ 0 → ⊥) ⌝ }
+{
+    if work[q] != paint {
+        return false;
+    }
+    work[5 * n + q] == 0
+}
+
+// Whether one of the three cells from q on is small and of the paint.
+fn small_in_row(work: &[u32], n: usize, q: usize, paint: u32) -> bool
+    requires { ⌜ (8 * n ≤ length (now work)) × (n ≤ 264196) × (q + 2 < n) ⌝ }
+    ensures { λ r. ⌜ (r ≡ false → (i : ℕ) → i < 3 → plane n 0 (now (work .entry)) (q + i) ≡ paint → plane n 5 (now (work .entry)) (q + i) ≡ 0 → ⊥) ⌝ }
+{
+    if small_at(work, n, q, paint) {
+        return true;
+    }
+    let next = q + 1;
+    if small_at(work, n, next, paint) {
+        return true;
+    }
+    let last = q + 2;
+    small_at(work, n, last, paint)
+}
+
+// Whether a small cell of the paint may be beside the place p: one is near, or p is too near the first or last place to look.
+fn small_near(work: &[u32], n: usize, w: usize, p: usize, paint: u32) -> bool
+    requires { ⌜ (8 * n ≤ length (now work)) × (n ≤ 264196) × (w ≤ 514) × (p < n) ⌝ }
+    ensures { λ r. ⌜ (r ≡ false → (q : ℕ) → eight w p q ≡ true → plane n 0 (now (work .entry)) q ≡ paint → plane n 5 (now (work .entry)) q ≡ 0 → ⊥) ⌝ }
+{
+    let reach = w + 1;
+    if p < reach {
+        return true;
+    }
+    let far = p + reach;
+    if n <= far {
+        return true;
+    }
+    let above = p - reach;
+    if small_in_row(work, n, above, paint) {
+        return true;
+    }
+    let before = p - 1;
+    if small_in_row(work, n, before, paint) {
+        return true;
+    }
+    let below = far - 2;
+    small_in_row(work, n, below, paint)
+}
+
+// The groups of its paint beside the place p become large. Whether there may be one is asked first, since the steps cost more.
 fn absorb_beside(work: &mut [u32], h: usize, w: usize, steps: usize, p: usize, from: usize) -> usize
     requires { ⌜ Growth h w steps from (now work) × (p < h * w) ⌝ }
     ensures { λ r. ⌜ Gained h w steps (λ q. (hood steps w p q ≡ true) × (plane (h * w) 0 (now (work .entry)) q ≡ plane (h * w) 0 (now (work .entry)) p)) (now (work .entry)) (now (work .exit)) from r ⌝ }
 {
+    let n = h * w;
     let paint = work[p];
+    if !small_near(work, n, w, p, paint) {
+        return from;
+    }
     let border = on_border(p, h, w);
     let offsets = OFFSETS8;
     let mut end = from;

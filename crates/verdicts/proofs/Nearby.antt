@@ -1,4 +1,4 @@
--- Looking for a large cell beside places: where none may be, no neighbour votes. Assumes nothing.
+-- Looking at the cells beside a place: each neighbour stands in one of three rows of three. Assumes nothing.
 use Prim.Native.Nat.{ℕ, zero, suc, _+_, _-_, _*_, _/_, _%_, _≤_, _<_}
 use mathlib.Core.Path.{_≡_, sym, ap, _∙_}
 use mathlib.Core.Logic.{_⊎_}
@@ -56,23 +56,24 @@ apart-around w p q a =
       ]
     ]
 
--- three cells in a row, one by one
-pub row-small : (n q : ℕ) (a : List ℕ) → plane n 5 a q ≡ 0 → plane n 5 a (q + 1) ≡ 0 → plane n 5 a (q + 2) ≡ 0 → (i : ℕ) → i < 3 → plane n 5 a (q + i) ≡ 0
-row-small n q a x y z zero l = let e : q + 0 ≡ q = omega arith in rw e x
-row-small n q a x y z (suc zero) l = y
-row-small n q a x y z (suc (suc zero)) l = z
-row-small n q a x y z (suc (suc (suc i))) l = absurd (omega arith)
+-- what holds of three places in a row, one by one
+pub row-each : (P : ℕ → Type 0) (q : ℕ) → P q → P (q + 1) → P (q + 2) → (i : ℕ) → i < 3 → P (q + i)
+row-each P q x y z zero l = let e : q + 0 ≡ q = omega arith in rw e x
+row-each P q x y z (suc zero) l = y
+row-each P q x y z (suc (suc zero)) l = z
+row-each P q x y z (suc (suc (suc i))) l = absurd (omega arith)
 
--- three rows of three
-module _ (n w p : ℕ) (a : List ℕ) (rim : w + 1 ≤ p) (over : (i : ℕ) → i < 3 → plane n 5 a (p - (w + 1) + i) ≡ 0) (mid : (i : ℕ) → i < 3 → plane n 5 a (p - 1 + i) ≡ 0)
-    (under : (i : ℕ) → i < 3 → plane n 5 a (p + (w + 1) - 2 + i) ≡ 0) where
-  small-there : (q : ℕ) → Around w p q → plane n 5 a q ≡ 0
-  small-there q (above i l e) = let f : q ≡ p - (w + 1) + i = omega arith in rw f (over i l)
-  small-there q (level i l e) = let f : q ≡ p - 1 + i = omega arith in rw f (mid i l)
-  small-there q (below i l e) = let f : q ≡ p + (w + 1) - 2 + i = omega arith in rw f (under i l)
+-- what holds in three rows of three
+module _ (P : ℕ → Type 0) (w p : ℕ) (rim : w + 1 ≤ p) (over : (i : ℕ) → i < 3 → P (p - (w + 1) + i)) (mid : (i : ℕ) → i < 3 → P (p - 1 + i)) (under : (i : ℕ) → i < 3 → P (p + (w + 1) - 2 + i)) where
+  -- holds where a neighbour stands
+  each-there : (q : ℕ) → Around w p q → P q
+  each-there q (above i l e) = let f : q ≡ p - (w + 1) + i = omega arith in rw f (over i l)
+  each-there q (level i l e) = let f : q ≡ p - 1 + i = omega arith in rw f (mid i l)
+  each-there q (below i l e) = let f : q ≡ p + (w + 1) - 2 + i = omega arith in rw f (under i l)
 
-  pub near-small : (q : ℕ) → eight w p q ≡ true → plane n 5 a q ≡ 0
-  near-small q y = small-there q (apart-around w p q (eight-apart w p q y))
+  -- holds of each neighbour
+  pub near-each : (q : ℕ) → eight w p q ≡ true → P q
+  near-each q y = each-there q (apart-around w p q (eight-apart w p q y))
 
 -- the places of a run, one by one
 pub around-more : (n w : ℕ) (a : List ℕ) (from i p : ℕ) → p ≡ plane n 2 a i → ((j : ℕ) → from ≤ j → j < i → (q : ℕ) → eight w (plane n 2 a j) q ≡ true → plane n 5 a q ≡ 0) → ((q : ℕ) → eight w p q ≡ true → plane n 5 a q ≡ 0) →

@@ -17,8 +17,8 @@ use Rattle.grid.proofs.Places.{area, some-inj, none-some, step-cell, step-off, 
 use Rattle.grid.proofs.Planes.{plane-read}
 use Rattle.verdicts.specs.Judging.{largeOf}
 use Rattle.frontier.specs.Growing.{Gained}
-use Rattle.frontier.proofs.Stages.{zero-big, big-some}
-use Rattle.frontier.proofs.Gains.{gained-start, grown-room, gained-one}
+use Rattle.frontier.proofs.Stages.{zero-big}
+use Rattle.frontier.proofs.Gains.{gained-none, grown-room, gained-one}
 use Rattle.frontier.proofs.growing.absorb.Statement.{statement}
 use Rattle.frontier.proofs.growing.absorb.Tie as tie
 
@@ -55,9 +55,7 @@ found c = let s = c .before .before in rw (toZ-ofZ (s .fits .dy), toZ-ofZ (s .fi
 -- nothing is gained
 idle : (s : tie.Start) → ((q : ℕ) → Near s q → 0 < plane (s .args .h * s .args .w) 1 (s .args .work .now) q → (plane (s .args .h * s .args .w) 5 (s .args .work .now) q ≡ 0 → ⊥)) →
     Gained (s .args .h) (s .args .w) (s .args .steps) (Near s) (s .args .work .now) (s .args .work .now) (s .args .end) (s .args .end)
-idle s f =
-    gained-start (s .args .h) (s .args .w) (s .args .steps) (s .args .end) (Near s) (s .args .work .now) (s .pre .0 .0)
-    (λ q l z y. big-some (s .args .h * s .args .w) (s .args .work .now) q (f q z y))
+idle s f = gained-none (s .args .h) (s .args .w) (s .args .steps) (s .args .end) (Near s) (s .args .work .now) (s .pre .0 .0) (λ q l. f q)
 
 returns : tie.Need-returns
 returns c =

@@ -1,11 +1,12 @@
 -- `verdicts::large::large_in_row`, cell by cell. Assumes nothing.
-use mathlib.Core.Path.{refl, sym, _∙_}
+use mathlib.Core.Path.{_≡_, refl, sym, _∙_}
 use Prim.Native.Nat.{_+_, _*_}
 use native.Mathlib.Omega.{arith}
 use borrow.Author.Needs.{needs}
 use Rattle.base.proofs.Counting.{clash}
+use Rattle.grid.specs.Planes.{plane}
 use Rattle.grid.proofs.Planes.{plane-read}
-use Rattle.verdicts.proofs.Nearby.{row-small}
+use Rattle.verdicts.proofs.Nearby.{row-each}
 use Rattle.verdicts.proofs.large.large_in_row.Statement.{statement}
 use Rattle.verdicts.proofs.large.large_in_row.Tie as tie
 
@@ -54,7 +55,7 @@ returns-4 c =
     let n = s .args .n in
     let q = s .args .q in
     let a = s .args .work .now in
-    (λ z. row-small n q a
+    (λ z. row-each (λ x. plane n 5 a x ≡ 0) q
     (sym (plane-read n 5 q (5 * n + q) a (omega arith)) ∙ c .before .before .before .before .if1 .left)
     (sym (plane-read n 5 (q + 1) (5 * n + q + 1) a (omega arith)) ∙ c .before .before .if2 .left)
     (sym (plane-read n 5 (q + 2) (5 * n + q + 2) a (omega arith)) ∙ c .if3 .left))

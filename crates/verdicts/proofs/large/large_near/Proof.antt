@@ -1,8 +1,9 @@
 -- `verdicts::large::large_near`, test by test. Assumes nothing.
-use mathlib.Core.Path.{refl}
+use mathlib.Core.Path.{_≡_, refl}
 use borrow.Author.Needs.{needs}
 use Rattle.base.proofs.Counting.{clash}
-use Rattle.verdicts.proofs.Nearby.{near-small}
+use Rattle.grid.specs.Planes.{plane}
+use Rattle.verdicts.proofs.Nearby.{near-each}
 use Rattle.verdicts.proofs.large.large_near.Statement.{statement}
 use Rattle.verdicts.proofs.large.large_near.Tie as tie
 
@@ -45,7 +46,7 @@ returns-5 c =
     let a = b .before .before in
     let e = a .before .before in
     let s = e .before .before in
-    (λ z. near-small (s .args .n) (s .args .w) (s .args .p) (s .args .work .now) (e .if1 .left) (a .large-in-row .ensures (b .before .if3 .left)) (b .large-in-row2 .ensures (c .before .if4 .left)) (c .large-in-row3 .ensures z))
+    (λ z. near-each (λ q. plane (s .args .n) 5 (s .args .work .now) q ≡ 0) (s .args .w) (s .args .p) (e .if1 .left) (a .large-in-row .ensures (b .before .if3 .left)) (b .large-in-row2 .ensures (c .before .if4 .left)) (c .large-in-row3 .ensures z))
 
 pub large-near-spec : {M : Type 1} → statement M
 large-near-spec =
