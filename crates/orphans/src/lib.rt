@@ -4,7 +4,7 @@ mod rows;
 mod starting;
 
 use crate::passing::first_pass;
-use crate::passing::later_pass;
+use crate::passing::later_passes;
 use crate::rows::refused;
 use crate::starting::any_small;
 use crate::starting::wipe;
@@ -56,21 +56,13 @@ pub fn clean_planes(
     }
     wipe(work, 5 * n, n + count);
     mark_large(work, n, count, limit);
-    let mut begin = 0;
-    let mut end = first_pass(work, h, w, steps, palette, k, limit, max_delta, count);
+    let end = first_pass(work, h, w, steps, palette, k, limit, max_delta, count);
     if end == 0 {
         return 0;
     }
     let left = max_passes - 1;
-    for made in 0..left {
-        let last = later_pass(work, h, w, steps, palette, k, limit, max_delta, begin, end);
-        if last == end {
-            return made + 1;
-        }
-        begin = end;
-        end = last;
-    }
-    max_passes
+    let more = later_passes(work, h, w, steps, palette, k, limit, max_delta, end, left);
+    more + 1
 }
 
 // Cleaning of a sheet whose arguments were checked, with at most `max_passes` passes. The count of those that repaint.

@@ -39,9 +39,8 @@ pub fn verdict(
     if work[6 * n + at] != 0 {
         return 0;
     }
-    let label = at + 1;
     let from = region_end(work, n, at) as usize;
-    let to = region_end(work, n, label) as usize;
+    let to = region_end(work, n, at + 1) as usize;
     let first = work[2 * n + from] as usize;
     if work[5 * n + first] != 0 {
         return 0;
@@ -49,8 +48,7 @@ pub fn verdict(
     if !large_around(work, n, w, from, to) {
         return 0;
     }
-    let paint = work[first] as usize;
-    let own = paint - 1;
+    let own = work[first] as usize - 1;
     let voted = agreed(work, h, w, steps, from, to) as usize;
     if voted != 0 {
         let c = voted - 1;

@@ -49,14 +49,14 @@ returns c =
     judged-done (s .args .h) (s .args .w) (s .args .steps) (s .args .limit) (s .args .palette .now) (s .args .max-delta) (s .args .work .now) (s .pre .0 .0) (s .pre .1 .1 .0) (s .args .at) (s .pre .0 .1)
     (λ e. c .if1 .taken (number-is s ∙ e))
 
-add-label : tie.Need-add-label
-add-label c = search needs
-
 region-end-requires : tie.Need-region-end-requires
 region-end-requires c κs = search needs
 
 cast-from : tie.Need-cast-from
 cast-from c = search needs
+
+add-region-end : tie.Need-add-region-end
+add-region-end c = search needs
 
 region-end-requires-2 : tie.Need-region-end-requires-2
 region-end-requires-2 c κs = search needs
@@ -213,14 +213,14 @@ paint c =
       few = s .pre .1 .0 .0 .few;
     }
 
-mul-paint : tie.Need-mul-paint
-mul-paint c = let r = run (found (voted c)) in omega (arith, r, r .sizes)
+mul-own : tie.Need-mul-own
+mul-own c = let r = run (found (voted c)) in omega (arith, r, r .sizes)
 
-slice-read-paint : tie.Need-slice-read-paint
-slice-read-paint c = let r = run (found (voted (c .before))) in omega (arith, r, r .sizes)
+slice-read-own : tie.Need-slice-read-own
+slice-read-own c = let r = run (found (voted (c .before))) in omega (arith, r, r .sizes)
 
-cast-paint : tie.Need-cast-paint
-cast-paint c = omega (arith, paint (found (voted (c .before))))
+cast-own : tie.Need-cast-own
+cast-own c = omega (arith, paint (found (voted (c .before))))
 
 sub-own : tie.Need-sub-own
 sub-own c = omega (arith, paint (found (voted (c .before))))
@@ -329,9 +329,9 @@ verdict-spec =
     mul-if1-2
     slice-read-if1
     returns
-    add-label
     region-end-requires
     cast-from
+    add-region-end
     region-end-requires-2
     cast-to
     mul-first
@@ -348,9 +348,9 @@ verdict-spec =
     large-around-requires
     same-length-2
     returns-3
-    mul-paint
-    slice-read-paint
-    cast-paint
+    mul-own
+    slice-read-own
+    cast-own
     sub-own
     agreed-requires
     cast-voted
