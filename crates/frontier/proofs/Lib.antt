@@ -1,5 +1,6 @@
 pub mod Decisions
 pub mod Growth
+pub mod Turns
 pub mod Setting
 pub mod Notes
 pub mod Stages

@@ -6,9 +6,9 @@ use mathlib.Core.List.{List}
 use native.Mathlib.Nat.{mul-le-mul-right, suc-mul}
 use native.Mathlib.Decide.{ℕ-discrete}
 use native.Mathlib.Omega.{arith}
-use lib.ListN.{length, getD, set, length-set}
+use lib.ListN.{length, set, length-set}
 use Rattle.grid.specs.Planes.{plane, endOf}
-use Rattle.grid.proofs.Planes.{plane-read, plane-same, plane-else, plane-other}
+use Rattle.grid.proofs.Planes.{plane-same, plane-else, plane-other}
 use Rattle.verdicts.specs.Groups.{Group}
 use Rattle.frontier.specs.Judging.{RegionSet}
 use Rattle.frontier.specs.Growing.{Repainted}
@@ -16,19 +16,6 @@ use Rattle.frontier.specs.Growing.{Repainted}
 -- a place of a plane lies in the work area
 pub in-plane : (n j p : ℕ) → j < 8 → p < n → j * n + p < 8 * n
 in-plane n j p l h = omega (arith, mul-le-mul-right n l, suc-mul j n)
-
--- what the order holds at i is a place
-pub record Turn (n i : ℕ) (a b : List ℕ) : Type 0 where
-  pub on : i < n
-  pub is : getD b (2 * n + i) 0 ≡ plane n 2 a i
-  pub place : getD b (2 * n + i) 0 < n
-
--- while the order is kept, a turn in the run of a group reads a place of it
-pub group-turn : (n at i : ℕ) (a b : List ℕ) → Group n a at → endOf n a at ≤ i → i < endOf n a (suc at) → ((q : ℕ) → q < n → plane n 2 b q ≡ plane n 2 a q) → Turn n i a b
-group-turn n at i a b g lo hi kept =
-    let on : i < n = omega (arith, g .end) in
-    let e = plane-read n 2 i (2 * n + i) b (omega arith) ∙ kept i on in
-    record { on = on; is = e; place = rw e (g .places i lo hi .0) }
 
 -- ---- one plane
 

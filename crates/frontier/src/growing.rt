@@ -4,8 +4,8 @@ use grid::OFFSETS8;
 use grid::Step;
 use grid::on_border;
 use grid::reached;
-use verdicts::large::region_end;
 use verdicts::large::region_size;
+use verdicts::large::region_span;
 ghost use mathlib.Core.Path.{_≡_};
 ghost use mathlib.Core.Bool.{true, false};
 ghost use mathlib.Core.Option.{some};
@@ -39,10 +39,8 @@ fn repaint(work: &mut [u32], n: usize, at: usize)
 {
     let number = work[6 * n + at];
     let paint = number - 1;
-    let from = region_end(work, n, at) as usize;
-    let next = at + 1;
-    let to = region_end(work, n, next) as usize;
-    for i in from..to {
+    let span = region_span(work, n, at);
+    for i in span.from..span.to {
         let p = work[2 * n + i] as usize;
         work[p] = paint;
         work[5 * n + p] = 1;
@@ -185,11 +183,9 @@ fn absorb_around(
     ensures { λ r. ⌜ Gained h w steps (λ q. (p : ℕ) × (p < h * w) × (plane (h * w) 1 (now (work .entry)) p ≡ suc at) × (hood steps w p q ≡ true) × (plane (h * w) 0 (now (work .entry)) q ≡ plane (h * w) 0 (now (work .entry)) p)) (now (work .entry)) (now (work .exit)) from r ⌝ }
 {
     let n = h * w;
-    let first = region_end(work, n, at) as usize;
-    let next = at + 1;
-    let last = region_end(work, n, next) as usize;
+    let span = region_span(work, n, at);
     let mut end = from;
-    for i in first..last {
+    for i in span.from..span.to {
         let p = work[2 * n + i] as usize;
         end = absorb_beside(work, h, w, steps, p, end);
     }

@@ -4,7 +4,7 @@ use grid::OFFSETS8;
 use grid::Step;
 use grid::on_border;
 use grid::reached;
-use verdicts::large::region_end;
+use verdicts::large::region_span;
 use verdicts::verdict;
 ghost use mathlib.Core.Path.{_≡_};
 ghost use mathlib.Core.Bool.{true, false};
@@ -170,11 +170,9 @@ fn judge_around(
     ensures { λ r. ⌜ Met (ruleOf h w steps limit (now (palette .entry)) «max_delta») h w steps k (Small (h * w) (now (work .entry)) (λ q. (p : ℕ) × (p < h * w) × (plane (h * w) 1 (now (work .entry)) p ≡ suc at) × (hood steps w p q ≡ true))) (now (work .entry)) (now (work .exit)) from r ⌝ }
 {
     let n = h * w;
-    let first = region_end(work, n, at) as usize;
-    let next = at + 1;
-    let last = region_end(work, n, next) as usize;
+    let span = region_span(work, n, at);
     let mut end = from;
-    for i in first..last {
+    for i in span.from..span.to {
         let p = work[2 * n + i] as usize;
         end = judge_beside(work, h, w, steps, palette, k, limit, max_delta, p, end);
     }

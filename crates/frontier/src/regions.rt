@@ -1,5 +1,5 @@
 // Writing to all places of a group.
-use verdicts::large::region_end;
+use verdicts::large::region_span;
 ghost use mathlib.Core.Path.{_≡_};
 ghost use mathlib.Core.Logic.{_⊎_};
 ghost use Prim.Native.Nat.{_*_, _≤_, _<_};
@@ -13,11 +13,9 @@ pub fn set_region(work: &mut [u32], n: usize, at: usize, j: usize, v: u32)
     requires { ⌜ (8 * n ≤ length (now work)) × (n ≤ 264196) × (j < 8) × ((j ≡ 0) ⊎ (4 ≤ j)) ⌝ }
     ensures { λ r. ⌜ RegionSet n at j v (now (work .entry)) (now (work .exit)) ⌝ }
 {
-    let from = region_end(work, n, at) as usize;
-    let next = at + 1;
-    let to = region_end(work, n, next) as usize;
+    let span = region_span(work, n, at);
     let base = j * n;
-    for i in from..to {
+    for i in span.from..span.to {
         let p = work[2 * n + i] as usize;
         work[base + p] = v;
     }

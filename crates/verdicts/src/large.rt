@@ -1,4 +1,4 @@
-// Regions of the work area: where their places end, and whether a large cell may be beside a run of places, which is asked before a poll, since that costs more.
+// Regions of the work area: where their places stand, and whether a large cell may be beside a run of places, which is asked before a poll, since that costs more.
 ghost use mathlib.Core.Path.{_≡_};
 ghost use mathlib.Core.Bool.{true, false};
 ghost use Prim.Native.Nat.{ℕ, suc, _+_, _-_, _*_, _≤_, _<_};
@@ -8,7 +8,7 @@ ghost use Rattle.grid.specs.Planes.{plane, endOf};
 ghost use Rattle.verdicts.specs.Groups.{Group};
 
 // Where the places of the regions up to a label end in the order.
-pub fn region_end(work: &[u32], n: usize, label: usize) -> u32
+fn region_end(work: &[u32], n: usize, label: usize) -> u32
     requires { ⌜ (label ≤ n) × (8 * n ≤ length (now work)) ⌝ }
     ensures { λ r. ⌜ r ≡ endOf n (now (work .entry)) label ⌝ }
 {
@@ -19,15 +19,30 @@ pub fn region_end(work: &[u32], n: usize, label: usize) -> u32
     work[3 * n + last]
 }
 
+// Where the places of a region stand in the order: from `from` on and before `to`.
+pub struct Span {
+    pub from: usize,
+    pub to: usize,
+}
+
+// The places with the label at + 1.
+pub fn region_span(work: &[u32], n: usize, at: usize) -> Span
+    requires { ⌜ (8 * n ≤ length (now work)) × (n ≤ 264196) × Group n (now work) at ⌝ }
+    ensures { λ r. ⌜ (r .from ≡ endOf n (now (work .entry)) at) × (r .to ≡ endOf n (now (work .entry)) (suc at)) ⌝ }
+{
+    let from = region_end(work, n, at) as usize;
+    let next = at + 1;
+    let to = region_end(work, n, next) as usize;
+    Span { from, to }
+}
+
 // The number of places with the label at + 1.
 pub fn region_size(work: &[u32], n: usize, at: usize) -> u32
     requires { ⌜ (8 * n ≤ length (now work)) × (n ≤ 264196) × Group n (now work) at ⌝ }
     ensures { λ r. ⌜ r ≡ endOf n (now (work .entry)) (suc at) - endOf n (now (work .entry)) at ⌝ }
 {
-    let from = region_end(work, n, at);
-    let next = at + 1;
-    let to = region_end(work, n, next);
-    to - from
+    let span = region_span(work, n, at);
+    (span.to - span.from) as u32
 }
 
 // Whether one of the three cells from q on is large.

@@ -6,7 +6,7 @@ mod voting;
 
 use crate::agreeing::agreed;
 use crate::large::large_around;
-use crate::large::region_end;
+use crate::large::region_span;
 use crate::target::choice;
 use crate::target::only_choice;
 use crate::voting::poll;
@@ -39,23 +39,22 @@ pub fn verdict(
     if work[6 * n + at] != 0 {
         return 0;
     }
-    let from = region_end(work, n, at) as usize;
-    let to = region_end(work, n, at + 1) as usize;
-    let first = work[2 * n + from] as usize;
+    let span = region_span(work, n, at);
+    let first = work[2 * n + span.from] as usize;
     if work[5 * n + first] != 0 {
         return 0;
     }
-    if !large_around(work, n, w, from, to) {
+    if !large_around(work, n, w, span.from, span.to) {
         return 0;
     }
     let own = work[first] as usize - 1;
-    let voted = agreed(work, h, w, steps, from, to) as usize;
+    let voted = agreed(work, h, w, steps, span.from, span.to) as usize;
     if voted != 0 {
         let c = voted - 1;
         return only_choice(palette, own, c, max_delta);
     }
     let mark = at as u32 + 2;
     let mut counts = [0u32; 256];
-    poll(work, h, w, steps, from, to, mark, &mut counts);
+    poll(work, h, w, steps, span.from, span.to, mark, &mut counts);
     choice(&counts, palette, k, own, max_delta)
 }

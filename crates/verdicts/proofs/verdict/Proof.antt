@@ -1,7 +1,6 @@
 -- `verdicts::verdict`, way out by way out. Assumes nothing.
 use Prim.Native.Nat.{ℕ, suc, _+_, _*_, _≤_, _<_}
 use mathlib.Core.Path.{_≡_, sym, ap, _∙_}
-use native.Mathlib.Numerals.{add-one}
 use native.Mathlib.Omega.{arith}
 use borrow.Author.Needs.{needs}
 use borrow.Author.Tests.{not-true}
@@ -49,32 +48,20 @@ returns c =
     judged-done (s .args .h) (s .args .w) (s .args .steps) (s .args .limit) (s .args .palette .now) (s .args .max-delta) (s .args .work .now) (s .pre .0 .0) (s .pre .1 .1 .0) (s .args .at) (s .pre .0 .1)
     (λ e. c .if1 .taken (number-is s ∙ e))
 
-region-end-requires : tie.Need-region-end-requires
-region-end-requires c κs = search needs
+region-span-requires : tie.Need-region-span-requires
+region-span-requires c κs = let s = c .before .before .before .before .before in let z = sizes s in (z .room, z .few, s .pre .0 .1)
 
-cast-from : tie.Need-cast-from
-cast-from c = search needs
+abbrev start : tie.After-region-span → tie.Start
+start c = c .before .before .before .before .before .before
 
-add-region-end : tie.Need-add-region-end
-add-region-end c = search needs
+abbrev from : tie.After-region-span → ℕ
+from c = c .region-span .result .from
 
-region-end-requires-2 : tie.Need-region-end-requires-2
-region-end-requires-2 c κs = search needs
-
-cast-to : tie.Need-cast-to
-cast-to c = search needs
-
-abbrev start : tie.After-region-end2 → tie.Start
-start c = c .before .before .before .before .before .before .before .before
-
-abbrev from : tie.After-region-end2 → ℕ
-from c = c .before .before .region-end .result
-
-abbrev to : tie.After-region-end2 → ℕ
-to c = c .region-end2 .result
+abbrev to : tie.After-region-span → ℕ
+to c = c .region-span .result .to
 
 -- the group's places stand from `from` on and before `to`; the first is read
-pub record Run (c : tie.After-region-end2) : Type 0 where
+pub record Run (c : tie.After-region-span) : Type 0 where
   pub sizes : Sizes (start c)
   pub from-is : from c ≡ endOf (start c .args .h * start c .args .w) (start c .args .work .now) (start c .args .at)
   pub to-is : to c ≡ endOf (start c .args .h * start c .args .w) (start c .args .work .now) (suc (start c .args .at))
@@ -83,14 +70,14 @@ pub record Run (c : tie.After-region-end2) : Type 0 where
   pub is : getD (start c .args .work .now) (2 * (start c .args .h * start c .args .w) + from c) 0 ≡ plane (start c .args .h * start c .args .w) 2 (start c .args .work .now) (endOf (start c .args .h * start c .args .w) (start c .args .work .now) (start c .args .at))
   pub first : getD (start c .args .work .now) (2 * (start c .args .h * start c .args .w) + from c) 0 < start c .args .h * start c .args .w
 
-run : (c : tie.After-region-end2) → Run c
+run : (c : tie.After-region-span) → Run c
 run c =
     let s = start c in
     let n = s .args .h * s .args .w in
     let a = s .args .work .now in
     let g = s .pre .0 .1 in
-    let f = c .before .before .region-end .ensures in
-    let t = c .region-end2 .ensures ∙ ap (endOf n a) (add-one (s .args .at)) in
+    let f = c .region-span .ensures .0 in
+    let t = c .region-span .ensures .1 in
     let e = plane-read n 2 (from c) (2 * n + from c) a (omega arith) ∙ ap (plane n 2 a) f in
     record {
       sizes = sizes s;
@@ -112,28 +99,28 @@ mul-first-2 : tie.Need-mul-first-2
 mul-first-2 c = search needs
 
 slice-read-first : tie.Need-slice-read-first
-slice-read-first c = let r = run (c .before) in omega (arith, r, r .sizes)
+slice-read-first c = let r = run (c .before .before) in omega (arith, r, r .sizes)
 
 cast-first : tie.Need-cast-first
-cast-first c = let r = run (c .before) in omega (arith, r, r .sizes)
+cast-first c = let r = run (c .before .before) in omega (arith, r, r .sizes)
 
 mul-if2 : tie.Need-mul-if2
 mul-if2 c = search needs
 
 add-if2 : tie.Need-add-if2
-add-if2 c = let r = run (c .before) in omega (arith, r, r .sizes)
+add-if2 c = let r = run (c .before .before) in omega (arith, r, r .sizes)
 
 mul-if2-2 : tie.Need-mul-if2-2
-mul-if2-2 c = let r = run (c .before) in omega (arith, r, r .sizes)
+mul-if2-2 c = let r = run (c .before .before) in omega (arith, r, r .sizes)
 
 slice-read-if2 : tie.Need-slice-read-if2
-slice-read-if2 c = let r = run (c .before .before) in omega (arith, r, r .sizes)
+slice-read-if2 c = let r = run (c .before .before .before) in omega (arith, r, r .sizes)
 
 same-length : tie.Need-same-length
 same-length c = search needs
 
 -- what is read is whether the first place is large
-large-is : (c : tie.After-region-end2) → let s = start c in let n = s .args .h * s .args .w in
+large-is : (c : tie.After-region-span) → let s = start c in let n = s .args .h * s .args .w in
     getD (s .args .work .now) (5 * n + getD (s .args .work .now) (2 * n + from c) 0) 0 ≡ plane n 5 (s .args .work .now) (plane n 2 (s .args .work .now) (endOf n (s .args .work .now) (s .args .at)))
 large-is c =
     let s = start c in
@@ -142,17 +129,17 @@ large-is c =
 
 returns-2 : tie.Need-returns-2
 returns-2 c =
-    let e = c .before .before .before in
+    let e = c .before .before .before .before in
     let s = start e in
     judged-big (s .args .h) (s .args .w) (s .args .steps) (s .args .limit) (s .args .palette .now) (s .args .max-delta) (s .args .work .now) (s .pre .0 .0) (s .pre .1 .1 .0) (s .args .at) (s .pre .0 .1)
     (λ z. c .if2 .taken (large-is e ∙ z))
 
-abbrev found : tie.Else2 → tie.After-region-end2
-found c = c .before .before .before
+abbrev found : tie.Else2 → tie.After-region-span
+found c = c .before .before .before .before
 
 -- the group has no number
-unnumbered : (c : tie.After-region-end2) → plane (start c .args .h * start c .args .w) 6 (start c .args .work .now) (start c .args .at) ≡ 0
-unnumbered c = sym (number-is (start c)) ∙ c .before .before .before .before .if1 .left
+unnumbered : (c : tie.After-region-span) → plane (start c .args .h * start c .args .w) 6 (start c .args .work .now) (start c .args .at) ≡ 0
+unnumbered c = sym (number-is (start c)) ∙ c .before .before .if1 .left
 
 -- and its first place is not large
 little : (c : tie.Else2) → let s = start (found c) in let n = s .args .h * s .args .w in plane n 5 (s .args .work .now) (plane n 2 (s .args .work .now) (endOf n (s .args .work .now) (s .args .at))) ≡ 0
@@ -192,13 +179,13 @@ abbrev voted : tie.Else3 → tie.Else2
 voted c = c .before .before .before
 
 -- the first place's paint
-pub record Paint (c : tie.After-region-end2) : Type 0 where
+pub record Paint (c : tie.After-region-span) : Type 0 where
   pub is : getD (start c .args .work .now) (getD (start c .args .work .now) (2 * (start c .args .h * start c .args .w) + from c) 0) 0 ≡ plane (start c .args .h * start c .args .w) 0 (start c .args .work .now) (plane (start c .args .h * start c .args .w) 2 (start c .args .work .now) (endOf (start c .args .h * start c .args .w) (start c .args .work .now) (start c .args .at)))
   pub some : 1 ≤ getD (start c .args .work .now) (getD (start c .args .work .now) (2 * (start c .args .h * start c .args .w) + from c) 0) 0
   pub most : getD (start c .args .work .now) (getD (start c .args .work .now) (2 * (start c .args .h * start c .args .w) + from c) 0) 0 ≤ start c .args .k
   pub few : start c .args .k ≤ 256
 
-paint : (c : tie.After-region-end2) → Paint c
+paint : (c : tie.After-region-span) → Paint c
 paint c =
     let s = start c in
     let n = s .args .h * s .args .w in
@@ -329,11 +316,7 @@ verdict-spec =
     mul-if1-2
     slice-read-if1
     returns
-    region-end-requires
-    cast-from
-    add-region-end
-    region-end-requires-2
-    cast-to
+    region-span-requires
     mul-first
     add-first
     mul-first-2

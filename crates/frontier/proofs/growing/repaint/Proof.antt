@@ -1,21 +1,21 @@
 -- `frontier::growing::repaint`: the places of the group so far. Assumes nothing.
 use Prim.Native.Nat.{ℕ, suc, _+_, _-_, _*_, _≤_, _<_}
 use mathlib.Core.Path.{_≡_, sym, ap, _∙_, subst}
-use native.Mathlib.Numerals.{add-one}
 use native.Mathlib.Omega.{arith}
 use borrow.Author.Needs.{needs}
 use lib.ListN.{length, getD, length-set}
-use Rattle.grid.specs.Planes.{plane, endOf}
+use Rattle.grid.specs.Planes.{plane}
 use Rattle.grid.proofs.Planes.{plane-read}
-use Rattle.frontier.proofs.Setting.{Turn, group-turn, Repainting, repainting-start, repainting-on, repainting-end}
+use Rattle.frontier.proofs.Turns.{GroupTurn, group-turn}
+use Rattle.frontier.proofs.Setting.{Repainting, repainting-start, repainting-on, repainting-end}
 use Rattle.frontier.proofs.growing.repaint.Statement.{statement}
 use Rattle.frontier.proofs.growing.repaint.Tie as tie
 
 abbrev Inv-loop : tie.InvT-loop
-Inv-loop work₀ n at number paint from next to i₀ work i = Repainting n at paint i work₀ work
+Inv-loop work₀ n at number paint i₀ i-end work i = Repainting n at paint i work₀ work
 
 abbrev μ-loop : tie.MeasureT-loop
-μ-loop work₀ n at number paint from next to i₀ work i = to - i
+μ-loop work₀ n at number paint i₀ i-end work i = i-end - i
 
 mul-number : tie.Need-mul-number Inv-loop μ-loop
 mul-number c = search needs
@@ -40,105 +40,75 @@ number s = plane-read (s .args .n) 6 (s .args .at) (6 * s .args .n + s .args .at
 sub-paint : tie.Need-sub-paint Inv-loop μ-loop
 sub-paint c = let s = c .before .before in omega (arith, number s, s .pre .1 .1)
 
-region-end-requires : tie.Need-region-end-requires Inv-loop μ-loop
-region-end-requires c κs = let s = c .before .before .before in (omega (arith, s .pre .1 .0 .label), s .pre .0 .0)
+region-span-requires : tie.Need-region-span-requires Inv-loop μ-loop
+region-span-requires c κs = let s = c .before .before .before in (s .pre .0 .0, s .pre .0 .1, s .pre .1 .0)
 
-cast-from : tie.Need-cast-from Inv-loop μ-loop
-cast-from c = let s = c .before .before .before .before in let g = s .pre .1 .0 in omega (arith, c .region-end .ensures, g .some, g .end, s .pre .0 .1)
-
-add-next : tie.Need-add-next Inv-loop μ-loop
-add-next c = let s = c .before .before .before .before in omega (arith, s .pre .1 .0 .label, s .pre .0 .1)
-
-region-end-requires-2 : tie.Need-region-end-requires-2 Inv-loop μ-loop
-region-end-requires-2 c κs = let s = c .before .before .before .before .before in (omega (arith, s .pre .1 .0 .label), s .pre .0 .0)
-
-abbrev start : tie.After-region-end2 Inv-loop μ-loop → tie.Start Inv-loop μ-loop
-start c = c .before .before .before .before .before .before
-
-from-is : (c : tie.After-region-end2 Inv-loop μ-loop) → c .before .before .region-end .result ≡ endOf (start c .args .n) (start c .args .work .now) (start c .args .at)
-from-is c = c .before .before .region-end .ensures
-
-to-is : (c : tie.After-region-end2 Inv-loop μ-loop) → c .region-end2 .result ≡ endOf (start c .args .n) (start c .args .work .now) (suc (start c .args .at))
-to-is c = c .region-end2 .ensures ∙ ap (endOf (start c .args .n) (start c .args .work .now)) (add-one (start c .args .at))
-
-cast-to : tie.Need-cast-to Inv-loop μ-loop
-cast-to c = let s = start c in omega (arith, to-is c, s .pre .1 .0 .end, s .pre .0 .1)
+abbrev start : tie.After-region-span Inv-loop μ-loop → tie.Start Inv-loop μ-loop
+start c = c .before .before .before .before
 
 loop-holds : tie.Need-loop-holds Inv-loop μ-loop
 loop-holds c =
     let s = start c in
-    subst (λ (x : ℕ). Repainting (s .args .n) (s .args .at) (paint s) x (s .args .work .now) (s .args .work .now)) (sym (from-is c))
+    subst (λ (x : ℕ). Repainting (s .args .n) (s .args .at) (paint s) x (s .args .work .now) (s .args .work .now)) (sym (c .region-span .ensures .0))
     (repainting-start (s .args .n) (s .args .at) (paint s) (s .args .work .now) (s .pre .1 .0))
 
-abbrev ended : tie.In-loop Inv-loop μ-loop → tie.After-region-end2 Inv-loop μ-loop
-ended c = c .before .before
+abbrev ran : tie.In-loop Inv-loop μ-loop → tie.Start Inv-loop μ-loop
+ran c = start (c .before .before)
 
 -- what is read is a place of the group
-pub record Bounds (c : tie.In-loop Inv-loop μ-loop) : Type 0 where
-  pub turn : c .before .loop .i < endOf (start (ended c) .args .n) (start (ended c) .args .work .now) (suc (start (ended c) .args .at))
-  pub few : start (ended c) .args .n ≤ 264196
-  pub room : 8 * start (ended c) .args .n ≤ length (c .before .loop .work)
-  pub read : Turn (start (ended c) .args .n) (c .before .loop .i) (start (ended c) .args .work .now) (c .before .loop .work)
-
-bounds : (c : tie.In-loop Inv-loop μ-loop) → Bounds c
-bounds c =
-    let s = start (ended c) in
+turn : (c : tie.In-loop Inv-loop μ-loop) → GroupTurn (ran c .args .n) (ran c .args .at) (c .before .loop .i) (ran c .args .work .now) (c .before .loop .work)
+turn c =
+    let s = ran c in
     let u = c .before .loop .inv in
-    let t : c .before .loop .i < endOf (s .args .n) (s .args .work .now) (suc (s .args .at)) = omega (arith, c .loop-test .taken, to-is (ended c)) in
-    record {
-      turn = t;
-      few = s .pre .0 .1;
-      room = rw (u .len) (s .pre .0 .0);
-      read = group-turn (s .args .n) (s .args .at) (c .before .loop .i) (s .args .work .now) (c .before .loop .work) (s .pre .1 .0) (u .low) t
-          (λ q l. u .same 2 q (λ z. absurd (omega arith)) (λ z. absurd (omega arith)) l);
-    }
+    group-turn (s .pre .0 .1) (s .pre .0 .0) (s .pre .1 .0) (c .before .before .region-span .ensures .1) (u .len)
+    (λ q l. u .same 2 q (λ z. absurd (omega arith)) (λ z. absurd (omega arith)) l) (u .low) (c .loop-test .taken)
 
 mul-p : tie.Need-mul-p Inv-loop μ-loop
-mul-p c = omega (arith, bounds c)
+mul-p c = omega (arith, turn c)
 
 add-p : tie.Need-add-p Inv-loop μ-loop
-add-p c = omega (arith, bounds c)
+add-p c = omega (arith, turn c)
 
 mul-p-2 : tie.Need-mul-p-2 Inv-loop μ-loop
-mul-p-2 c = omega (arith, bounds c)
+mul-p-2 c = omega (arith, turn c)
 
 slice-read-p : tie.Need-slice-read-p Inv-loop μ-loop
-slice-read-p c = omega (arith, bounds (c .before))
+slice-read-p c = omega (arith, turn (c .before))
 
 cast-p : tie.Need-cast-p Inv-loop μ-loop
-cast-p c = omega (arith, bounds (c .before))
+cast-p c = omega (arith, turn (c .before))
 
 mul-work : tie.Need-mul-work Inv-loop μ-loop
-mul-work c = omega (arith, bounds (c .before))
+mul-work c = omega (arith, turn (c .before))
 
 slice-write-work : tie.Need-slice-write-work Inv-loop μ-loop
-slice-write-work c = omega (arith, bounds (c .before))
+slice-write-work c = omega (arith, turn (c .before))
 
 mul-work-2 : tie.Need-mul-work-2 Inv-loop μ-loop
-mul-work-2 c = omega (arith, bounds (c .before))
+mul-work-2 c = omega (arith, turn (c .before))
 
 add-work : tie.Need-add-work Inv-loop μ-loop
-add-work c = omega (arith, bounds (c .before))
+add-work c = omega (arith, turn (c .before))
 
 mul-work-3 : tie.Need-mul-work-3 Inv-loop μ-loop
-mul-work-3 c = omega (arith, bounds (c .before))
+mul-work-3 c = omega (arith, turn (c .before))
 
 slice-write-work-2 : tie.Need-slice-write-work-2 Inv-loop μ-loop
-slice-write-work-2 c = simp length-set (omega (arith, bounds (c .before)))
+slice-write-work-2 c = simp length-set (omega (arith, turn (c .before)))
 
 add-i : tie.Need-add-i Inv-loop μ-loop
-add-i c = omega (arith, bounds (c .before))
+add-i c = omega (arith, turn (c .before))
 
 loop-less : tie.Need-loop-less Inv-loop μ-loop
-loop-less c = omega (arith, bounds (c .before), c .before .loop-test .taken)
+loop-less c = omega (arith, turn (c .before), c .before .loop-test .taken)
 
 loop-again : tie.Need-loop-again Inv-loop μ-loop
 loop-again c =
     let i = c .before in
-    let s = start (ended i) in
-    let b = bounds i in
+    let s = ran i in
+    let b = turn i in
     repainting-on (s .args .n) (s .args .at) (paint s) (s .args .work .now) (s .pre .1 .0) (i .before .loop .i) (i .before .loop .work) (i .before .loop .inv) (b .turn)
-    _ _ (b .read .place) (b .read .is) (omega arith) (omega (arith, b))
+    _ _ (b .place) (b .is) (omega arith) (omega (arith, b))
 
 same-length : tie.Need-same-length Inv-loop μ-loop
 same-length c = c .before .loop .inv .len
@@ -148,7 +118,7 @@ returns c =
     let e = c .before .before in
     let s = start e in
     repainting-end (s .args .n) (s .args .at) (paint s) (s .args .work .now) (s .pre .1 .0) (c .before .loop .i) (c .before .loop .work) (c .before .loop .inv)
-    (omega (arith, c .loop-test .left, to-is e)) (omega (arith, number s, s .pre .1 .1))
+    (omega (arith, c .loop-test .left, e .region-span .ensures .1)) (omega (arith, number s, s .pre .1 .1))
 
 pub repaint-spec : {M : Type 1} → statement M
 repaint-spec =
@@ -161,11 +131,7 @@ repaint-spec =
     mul-number-2
     slice-read-number
     sub-paint
-    region-end-requires
-    cast-from
-    add-next
-    region-end-requires-2
-    cast-to
+    region-span-requires
     loop-holds
     mul-p
     add-p
