@@ -36,8 +36,9 @@ pub record LogTurn (n to i : ℕ) (a b : List ℕ) : Type 0 where
   pub label : getD b (7 * n + i) 0 < n
 
 -- while the log is kept, a turn reads what it held
-pub log-turn : {n to i : ℕ} {a b : List ℕ} → n ≤ 264196 → 8 * n ≤ length a → to ≤ n → i < to → length b ≡ length a → plane n 7 b i ≡ plane n 7 a i → Group n a (plane n 7 a i) → LogTurn n to i a b
+pub log-turn : {n to i : ℕ} {a b : List ℕ} → n ≤ 264196 → 8 * n ≤ length a → to ≤ n → i < to → length b ≡ length a → (i < n → plane n 7 b i ≡ plane n 7 a i) → Group n a (plane n 7 a i) → LogTurn n to i a b
 log-turn {n} {to} {i} {a} {b} few room last t len kept was =
-    let e = plane-read n 7 i (7 * n + i) b (omega arith) ∙ kept in
+    let on : i < n = omega arith in
+    let e = plane-read n 7 i (7 * n + i) b (omega arith) ∙ kept on in
     let g : Group n a (getD b (7 * n + i) 0) = rw e was in
-    record { few = few; room = rw len room; turn = t; on = omega arith; is = e; group = g; label = g .label }
+    record { few = few; room = rw len room; turn = t; on = on; is = e; group = g; label = g .label }

@@ -1,6 +1,6 @@
 -- `frontier::growing::absorb_around`: the places of the group so far. Assumes nothing.
-use Prim.Native.Nat.{ℕ, suc, _+_, _-_, _*_, _≤_, _<_}
-use mathlib.Core.Path.{_≡_, sym, ap, _∙_, subst}
+use Prim.Native.Nat.{ℕ, suc, _-_, _*_, _≤_, _<_}
+use mathlib.Core.Path.{_≡_, sym, ap, _∙_}
 use mathlib.Core.Logic.{inl, inr, ⊎-elim}
 use mathlib.Core.Bool.{true}
 use mathlib.Core.List.{List}
@@ -47,7 +47,7 @@ loop-holds c =
     let s = start c in
     let n = s .args .h * s .args .w in
     let a = s .args .work .now in
-    subst (λ (x : ℕ). Turn (s .args .h) (s .args .w) (s .args .steps) (s .args .at) x a a (s .args .from) (s .args .from)) (sym (c .region-span .ensures .0))
+    rw (c .region-span .ensures .0)
     (record {
       gained = gained-start (s .args .h) (s .args .w) (s .args .steps) (s .args .from) (Near (s .args .h) (s .args .w) (s .args .steps) a (s .args .at) (endOf n a (s .args .at))) a (s .pre .0)
           (λ q l y w. let f = y .1 in let g = y .2 in absurd (omega arith));

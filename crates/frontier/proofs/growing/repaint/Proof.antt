@@ -1,9 +1,9 @@
 -- `frontier::growing::repaint`: the places of the group so far. Assumes nothing.
-use Prim.Native.Nat.{ℕ, suc, _+_, _-_, _*_, _≤_, _<_}
-use mathlib.Core.Path.{_≡_, sym, ap, _∙_, subst}
+use Prim.Native.Nat.{ℕ, _+_, _-_, _*_}
+use mathlib.Core.Path.{_≡_}
 use native.Mathlib.Omega.{arith}
 use borrow.Author.Needs.{needs}
-use lib.ListN.{length, getD, length-set}
+use lib.ListN.{getD, length-set}
 use Rattle.grid.specs.Planes.{plane}
 use Rattle.grid.proofs.Planes.{plane-read}
 use Rattle.frontier.proofs.Turns.{GroupTurn, group-turn}
@@ -47,10 +47,7 @@ abbrev start : tie.After-region-span Inv-loop μ-loop → tie.Start Inv-loop μ-
 start c = c .before .before .before .before
 
 loop-holds : tie.Need-loop-holds Inv-loop μ-loop
-loop-holds c =
-    let s = start c in
-    subst (λ (x : ℕ). Repainting (s .args .n) (s .args .at) (paint s) x (s .args .work .now) (s .args .work .now)) (sym (c .region-span .ensures .0))
-    (repainting-start (s .args .n) (s .args .at) (paint s) (s .args .work .now) (s .pre .1 .0))
+loop-holds c = rw (c .region-span .ensures .0) (repainting-start _ _ _ _ (start c .pre .1 .0))
 
 abbrev ran : tie.In-loop Inv-loop μ-loop → tie.Start Inv-loop μ-loop
 ran c = start (c .before .before)

@@ -1,14 +1,12 @@
 -- `frontier::growing::repaint_all`: the groups of the log so far. Assumes nothing.
-use Prim.Native.Nat.{_+_, _-_, _*_, _≤_, _<_}
+use Prim.Native.Nat.{_-_, _≤_}
 use mathlib.Core.Path.{_≡_, refl, sym, ap, _∙_}
 use mathlib.Core.Logic.{_⊎_, inl, inr, ⊎-elim}
 use native.Mathlib.Decide.{ℕ-discrete}
 use native.Mathlib.Omega.{arith}
-use lib.ListN.{length, getD}
 use Rattle.grid.specs.Planes.{plane}
-use Rattle.grid.proofs.Planes.{plane-read}
-use Rattle.verdicts.specs.Groups.{Group}
 use Rattle.frontier.specs.Growing.{Listed, Repainted}
+use Rattle.frontier.proofs.Turns.{LogTurn, log-turn}
 use Rattle.frontier.proofs.Repaints.{repainted-start, repainted-same, repainted-on, repainted-group}
 use Rattle.frontier.proofs.growing.repaint_all.Statement.{statement}
 use Rattle.frontier.proofs.growing.repaint_all.Tie as tie
@@ -28,66 +26,39 @@ abbrev start : tie.In-loop Inv-loop μ-loop → tie.Start Inv-loop μ-loop
 start c = c .before .before .before
 
 -- what is read is a group
-pub record Bounds (c : tie.In-loop Inv-loop μ-loop) : Type 0 where
-  pub few : start c .args .n ≤ 264196
-  pub turn : c .before .loop .i < start c .args .to
-  pub on : c .before .loop .i < start c .args .n
-  pub room : 8 * start c .args .n ≤ length (c .before .loop .work)
-  pub is : getD (c .before .loop .work) (7 * start c .args .n + c .before .loop .i) 0 ≡ plane (start c .args .n) 7 (start c .args .work .now) (c .before .loop .i)
-  pub group : Group (start c .args .n) (start c .args .work .now) (getD (c .before .loop .work) (7 * start c .args .n + c .before .loop .i) 0)
-  pub label : getD (c .before .loop .work) (7 * start c .args .n + c .before .loop .i) 0 < start c .args .n
-  pub number : 1 ≤ plane (start c .args .n) 6 (c .before .loop .work) (getD (c .before .loop .work) (7 * start c .args .n + c .before .loop .i) 0)
-
-bounds : (c : tie.In-loop Inv-loop μ-loop) → Bounds c
-bounds c =
+turn : (c : tie.In-loop Inv-loop μ-loop) → LogTurn (start c .args .n) (start c .args .to) (c .before .loop .i) (start c .args .work .now) (c .before .loop .work)
+turn c =
     let s = start c in
-    let n = s .args .n in
-    let i = c .before .loop .i in
     let u = c .before .loop .inv in
-    let t : i < s .args .to = omega (arith, c .loop-test .taken) in
-    let on : i < n = omega (arith, s .pre .0 .2) in
-    let at = getD (c .before .loop .work) (7 * n + i) 0 in
-    let e : at ≡ plane n 7 (s .args .work .now) i = plane-read n 7 i (7 * n + i) (c .before .loop .work) (omega arith) ∙ u .0 .same 7 i (λ z. absurd (omega arith)) (λ z. absurd (omega arith)) on in
-    let p = s .pre .1 i (u .1) t in
-    let g : Group n (s .args .work .now) at = rw e (p .0) in
-    let m : 1 ≤ plane n 6 (s .args .work .now) at = rw e (p .1) in
-    record {
-      few = s .pre .0 .1;
-      turn = t;
-      on = on;
-      room = rw (u .0 .len) (s .pre .0 .0);
-      is = e;
-      group = g;
-      label = g .label;
-      number = rw (u .0 .same 6 at (λ z. absurd (omega arith)) (λ z. absurd (omega arith)) (g .label)) m;
-    }
+    log-turn (s .pre .0 .1) (s .pre .0 .0) (s .pre .0 .2) (c .loop-test .taken) (u .0 .len) (u .0 .same 7 _ (λ z. absurd (omega arith)) (λ z. absurd (omega arith))) (s .pre .1 _ (u .1) (c .loop-test .taken) .0)
 
 mul-at : tie.Need-mul-at Inv-loop μ-loop
-mul-at c = omega (arith, bounds c)
+mul-at c = omega (arith, turn c)
 
 add-at : tie.Need-add-at Inv-loop μ-loop
-add-at c = omega (arith, bounds c)
+add-at c = omega (arith, turn c)
 
 mul-at-2 : tie.Need-mul-at-2 Inv-loop μ-loop
-mul-at-2 c = omega (arith, bounds c)
+mul-at-2 c = omega (arith, turn c)
 
 slice-read-at : tie.Need-slice-read-at Inv-loop μ-loop
-slice-read-at c = omega (arith, bounds (c .before))
+slice-read-at c = omega (arith, turn (c .before))
 
 cast-at : tie.Need-cast-at Inv-loop μ-loop
-cast-at c = omega (arith, bounds (c .before))
+cast-at c = omega (arith, turn (c .before))
 
 repaint-requires : tie.Need-repaint-requires Inv-loop μ-loop
 repaint-requires c κs =
     let i = c .before .before in
-    let b = bounds i in
-    ((b .room, b .few), (repainted-group (i .before .loop .inv .0) (b .group), b .number))
+    let u = i .before .loop .inv in
+    let b = turn i in
+    ((b .room, b .few), (repainted-group (u .0) (b .group), rw (u .0 .same 6 _ (λ z. absurd (omega arith)) (λ z. absurd (omega arith)) (b .label), b .is) (start i .pre .1 _ (u .1) (b .turn) .1)))
 
 abbrev turned : tie.After-repaint Inv-loop μ-loop → tie.In-loop Inv-loop μ-loop
 turned c = c .before .before .before
 
 add-i : tie.Need-add-i Inv-loop μ-loop
-add-i c = omega (arith, bounds (turned (c .before .before)))
+add-i c = omega (arith, turn (turned (c .before .before)))
 
 loop-less : tie.Need-loop-less Inv-loop μ-loop
 loop-less c = omega (arith, turned (c .before .before) .loop-test .taken)
@@ -101,7 +72,7 @@ loop-again c =
     let a = s .args .work .now in
     let k = i .before .loop .i in
     let u = i .before .loop .inv in
-    let b = bounds i in (
+    let b = turn i in (
       repainted-same
           (λ l. ⊎-elim (λ z. (z .0, z .1, omega (arith, z .2), z .3)) (λ z. (k, u .1, omega arith, sym (b .is) ∙ sym z)))
           (λ l z. elim (ℕ-discrete (z .0) k) [ yes e ↦ inr (sym (z .3) ∙ ap (plane n 7 a) e ∙ sym (b .is)) | no d ↦ inl (z .0, z .1, omega (arith, z .2), z .3) ])

@@ -1,6 +1,6 @@
 -- `frontier::judging::judge_around`: the places of the group so far. Assumes nothing.
-use Prim.Native.Nat.{ℕ, suc, _+_, _-_, _*_, _≤_, _<_}
-use mathlib.Core.Path.{_≡_, refl, sym, ap, _∙_, subst}
+use Prim.Native.Nat.{ℕ, _-_, _*_, _≤_, _<_}
+use mathlib.Core.Path.{_≡_, refl, sym, ap, _∙_}
 use mathlib.Core.Logic.{inl, inr}
 use mathlib.Core.Bool.{true}
 use mathlib.Core.List.{List}
@@ -25,7 +25,6 @@ Near h w steps a at i q = (j : ℕ) × (endOf (h * w) a at ≤ j) × (j < i) × 
 pub record Turn (rule : Rule) (h w steps k at i : ℕ) (a b : List ℕ) (from end : ℕ) : Type 0 where
   pub met : Met rule h w steps k (Small (h * w) a (Near h w steps a at i)) a b from end
   pub low : endOf (h * w) a at ≤ i
-  pub high : i ≤ endOf (h * w) a (suc at)
 
 abbrev Inv-loop : tie.InvT-loop
 Inv-loop work₀ h w steps palette k limit max-delta at from n end₀ i₀ i-end work end i = Turn (ruleOf h w steps limit palette max-delta) h w steps k at i work₀ work from end
@@ -59,12 +58,11 @@ start c = c .before .before .before .before
 loop-holds : tie.Need-loop-holds Inv-loop μ-loop
 loop-holds c =
     let s = start c in
-    subst (λ (x : ℕ). Turn (ruled s) (s .args .h) (s .args .w) (s .args .steps) (s .args .k) (s .args .at) x (s .args .work .now) (s .args .work .now) (s .args .from) (s .args .from)) (sym (c .region-span .ensures .0))
+    rw (c .region-span .ensures .0)
     (record {
       met = met-fewer (λ l y. let a = y .named .1 in let b = y .named .2 in absurd (omega arith))
           (met-start (ruled s) (symm s) (s .args .h) (s .args .w) (s .args .steps) (s .args .k) (sized s) (s .args .work .now) (s .pre .0 .0 .sound) (s .args .from) (s .pre .0 .0));
       low = omega arith;
-      high = omega (arith, s .pre .1 .some);
     })
 
 abbrev ran : tie.In-loop Inv-loop μ-loop → tie.Start Inv-loop μ-loop
@@ -125,7 +123,6 @@ loop-again c =
           (met-small (ruled s) (symm s) (s .args .h) (s .args .w) (s .args .steps) (s .args .k) (sized s) (s .args .work .now) (i .before .loop .work) (j .judge-beside .last .0) (s .pre .0 .0 .sound)
           (Small n (s .args .work .now) (Near (s .args .h) (s .args .w) (s .args .steps) (s .args .work .now) (s .args .at) at)) _ (s .args .from) (i .before .loop .end) (j .judge-beside .result) (u .met) (j .judge-beside .ensures));
       low = omega (arith, u .low);
-      high = omega (arith, b .turn);
     }
 
 same-length : tie.Need-same-length Inv-loop μ-loop

@@ -1,9 +1,8 @@
 -- `frontier::regions::set_region`: the places of the group so far. Assumes nothing.
-use Prim.Native.Nat.{ℕ, suc, _+_, _-_, _*_, _≤_, _<_}
-use mathlib.Core.Path.{_≡_, sym, ap, _∙_, subst}
+use Prim.Native.Nat.{_+_, _-_, _*_, _<_}
 use mathlib.Core.Logic.{⊎-elim}
 use native.Mathlib.Omega.{arith}
-use lib.ListN.{length, getD}
+use lib.ListN.{getD}
 use Rattle.frontier.proofs.Turns.{GroupTurn, group-turn}
 use Rattle.frontier.proofs.Setting.{in-plane, RegionSetting, setting-start, setting-on, setting-end}
 use Rattle.frontier.proofs.regions.set_region.Statement.{statement}
@@ -25,9 +24,7 @@ mul-base : tie.Need-mul-base Inv-loop μ-loop
 mul-base c = let s = start c in omega (arith, in-plane (s .args .n) (s .args .j) (s .args .at) (s .pre .1 .2) (s .pre .0 .label), s .pre .1 .1)
 
 loop-holds : tie.Need-loop-holds Inv-loop μ-loop
-loop-holds c =
-    let s = start c in
-    rw (c .region-span .ensures .0) (setting-start (s .args .n) (s .args .at) (s .args .j) (s .args .v) (s .args .work .now) (s .pre .0))
+loop-holds c = rw (c .region-span .ensures .0) (setting-start _ _ _ _ _ (start c .pre .0))
 
 abbrev ran : tie.In-loop Inv-loop μ-loop → tie.Start Inv-loop μ-loop
 ran c = start (c .before .before)

@@ -1,7 +1,6 @@
 -- `verdicts::large::region_span`. Assumes nothing.
 use mathlib.Core.Path.{ap, _∙_}
 use native.Mathlib.Numerals.{add-one}
-use native.Mathlib.Omega.{arith}
 use borrow.Author.Needs.{needs}
 use Rattle.grid.specs.Planes.{endOf}
 use Rattle.verdicts.proofs.large.region_span.Statement.{statement}
