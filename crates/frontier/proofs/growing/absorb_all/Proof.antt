@@ -14,6 +14,7 @@ use Rattle.frontier.proofs.Gains.{gained-start, gained-same, gained-tra
 use Rattle.frontier.proofs.growing.absorb_all.Statement.{statement}
 use Rattle.frontier.proofs.growing.absorb_all.Tie as tie
 
+-- what holds before the turn i
 pub record Turn (h w steps from to i : ℕ) (a b : List ℕ) (last : ℕ) : Type 0 where
   pub gained : Gained h w steps (Beside h w steps a from i) a b to last
   pub low : from ≤ i

@@ -19,6 +19,7 @@ use Rattle.frontier.proofs.growing.absorb_around.Tie as tie
 abbrev Near : ℕ → ℕ → ℕ → List ℕ → ℕ → ℕ → ℕ → Type 0
 Near h w steps a at i q = (j : ℕ) × (endOf (h * w) a at ≤ j) × (j < i) × (hood steps w (plane (h * w) 2 a j) q ≡ true) × (plane (h * w) 0 a q ≡ plane (h * w) 0 a (plane (h * w) 2 a j))
 
+-- what holds before the turn i
 pub record Turn (h w steps at i : ℕ) (a b : List ℕ) (from end : ℕ) : Type 0 where
   pub gained : Gained h w steps (Near h w steps a at i) a b from end
   pub low : endOf (h * w) a at ≤ i
@@ -30,6 +31,7 @@ Inv-loop work₀ h w steps at from n end₀ i₀ i-end work end i = Turn h w ste
 abbrev μ-loop : tie.MeasureT-loop
 μ-loop work₀ h w steps at from n end₀ i₀ i-end work end i = i-end - i
 
+-- the number of places is small
 few : (s : tie.Start Inv-loop μ-loop) → s .args .h * s .args .w ≤ 264196
 few s = area _ _ (s .pre .0 .sheet .rows) (s .pre .0 .sheet .cols)
 
@@ -45,16 +47,14 @@ start c = c .before .before .before
 loop-holds : tie.Need-loop-holds Inv-loop μ-loop
 loop-holds c =
     let s = start c in
-    let n = s .args .h * s .args .w in
-    let a = s .args .work .now in
     rw (c .region-span .ensures .0)
     (record {
-      gained = gained-start (s .args .h) (s .args .w) (s .args .steps) (s .args .from) (Near (s .args .h) (s .args .w) (s .args .steps) a (s .args .at) (endOf n a (s .args .at))) a (s .pre .0)
-          (λ q l y w. let f = y .1 in let g = y .2 in absurd (omega arith));
+      gained = gained-start _ _ _ _ _ _ (s .pre .0) (λ q l y w. let f = y .1 in let g = y .2 in absurd (omega arith));
       low = omega arith;
       high = omega (arith, s .pre .1 .some);
     })
 
+-- the call that a turn belongs to
 abbrev ran : tie.In-loop Inv-loop μ-loop → tie.Start Inv-loop μ-loop
 ran c = start (c .before .before)
 

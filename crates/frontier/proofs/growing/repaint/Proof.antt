@@ -49,6 +49,7 @@ start c = c .before .before .before .before
 loop-holds : tie.Need-loop-holds Inv-loop μ-loop
 loop-holds c = rw (c .region-span .ensures .0) (repainting-start _ _ _ _ (start c .pre .1 .0))
 
+-- the call that a turn belongs to
 abbrev ran : tie.In-loop Inv-loop μ-loop → tie.Start Inv-loop μ-loop
 ran c = start (c .before .before)
 

@@ -86,7 +86,6 @@ same-length c = c .before .loop .inv .0 .len
 
 returns : tie.Need-returns Inv-loop μ-loop
 returns c =
-    let s = c .before .before .before in
     let u = c .before .loop .inv in
     repainted-same
     (λ l z. (z .0, z .1, ⊎-elim (λ y. omega (arith, z .2)) (λ y. let x = z .1 in absurd (omega (arith, z .2))) (u .2), z .3))

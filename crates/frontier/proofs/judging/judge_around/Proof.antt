@@ -22,6 +22,7 @@ use Rattle.frontier.proofs.judging.judge_around.Tie as tie
 abbrev Near : ℕ → ℕ → ℕ → List ℕ → ℕ → ℕ → ℕ → Type 0
 Near h w steps a at i q = (j : ℕ) × (endOf (h * w) a at ≤ j) × (j < i) × (hood steps w (plane (h * w) 2 a j) q ≡ true)
 
+-- what holds before the turn i
 pub record Turn (rule : Rule) (h w steps k at i : ℕ) (a b : List ℕ) (from end : ℕ) : Type 0 where
   pub met : Met rule h w steps k (Small (h * w) a (Near h w steps a at i)) a b from end
   pub low : endOf (h * w) a at ≤ i
@@ -43,6 +44,7 @@ sized : (s : tie.Start Inv-loop μ-loop) → ruled s .places ≡ s .args .h * s 
 unfolding ruleOf
 sized s = refl
 
+-- the number of places is small
 few : (s : tie.Start Inv-loop μ-loop) → s .args .h * s .args .w ≤ 264196
 few s = area _ _ (s .pre .0 .0 .sheet .rows) (s .pre .0 .0 .sheet .cols)
 
@@ -61,10 +63,11 @@ loop-holds c =
     rw (c .region-span .ensures .0)
     (record {
       met = met-fewer (λ l y. let a = y .named .1 in let b = y .named .2 in absurd (omega arith))
-          (met-start (ruled s) (symm s) (s .args .h) (s .args .w) (s .args .steps) (s .args .k) (sized s) (s .args .work .now) (s .pre .0 .0 .sound) (s .args .from) (s .pre .0 .0));
+          (met-start _ (symm s) _ _ _ _ (sized s) _ (s .pre .0 .0 .sound) _ (s .pre .0 .0));
       low = omega arith;
     })
 
+-- the call that a turn belongs to
 abbrev ran : tie.In-loop Inv-loop μ-loop → tie.Start Inv-loop μ-loop
 ran c = start (c .before .before)
 
@@ -132,7 +135,6 @@ returns : tie.Need-returns Inv-loop μ-loop
 returns c =
     let e = c .before .before in
     let s = start e in
-    let n = s .args .h * s .args .w in
     met-fewer (λ l z. let p = z .named in let j = s .pre .1 .all (p .0) (p .1) (p .2) in
     record { place = z .place; named = (j .0, j .1, omega (arith, j .2, c .loop-test .left, e .region-span .ensures .1), ap (λ (x : ℕ). hood (s .args .steps) (s .args .w) x (z .place)) (j .3) ∙ p .3); inside = z .inside; little = z .little; label = z .label })
     (c .before .loop .inv .met)

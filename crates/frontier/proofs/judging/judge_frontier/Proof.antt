@@ -22,6 +22,7 @@ use Rattle.frontier.proofs.judging.judge_frontier.Tie as tie
 abbrev Near : ℕ → ℕ → ℕ → List ℕ → ℕ → ℕ → ℕ → Type 0
 Near h w steps a begin i q = (j : ℕ) × (begin ≤ j) × (j < i) × (p : ℕ) × (p < h * w) × (plane (h * w) 1 a p ≡ suc (plane (h * w) 7 a j)) × (hood steps w p q ≡ true)
 
+-- what holds before the turn i
 pub record Turn (rule : Rule) (h w steps k begin i : ℕ) (a b : List ℕ) (end mid : ℕ) : Type 0 where
   pub met : Met rule h w steps k (Small (h * w) a (Near h w steps a begin i)) a b end mid
   pub low : begin ≤ i

@@ -26,6 +26,7 @@ mul-base c = let s = start c in omega (arith, in-plane (s .args .n) (s .args .j)
 loop-holds : tie.Need-loop-holds Inv-loop μ-loop
 loop-holds c = rw (c .region-span .ensures .0) (setting-start _ _ _ _ _ (start c .pre .0))
 
+-- the call that a turn belongs to
 abbrev ran : tie.In-loop Inv-loop μ-loop → tie.Start Inv-loop μ-loop
 ran c = start (c .before .before)
 
