@@ -1,35 +1,52 @@
--- Where the fractions of the two tables come from: the curve of IEC 61966-2-1. It takes a channel c in [0, 1] to c / 12.92 up to 0.04045, and to ((c + 0.055) / 1.055) ^ 2.4 above.
--- A byte k stands for c = k / 255, and byte j is taken from c = (j - 1/2) / 255 up. Each fraction is multiplied out, and 2.4 is 12 / 5. Assumes nothing.
-use Prim.Native.Nat.{ℕ, _+_, _-_, _*_, _≤_, _<_}
-use mathlib.Core.Path.{_≡_}
+-- The fractions of the two tables are those of the curve of IEC 61966-2-1, at every byte. Assumes nothing.
+use Prim.Native.Nat.{ℕ, _+_, _*_, _^_, _≤_, _<_}
+use mathlib.Core.Path.{_≡_, sym, ap, _∙_}
+use mathlib.Core.Bool.{true, false}
+use native.Mathlib.Nat.{pow-le-pow-left, mul-le-mul-right, lt-of-lt-of-le, not-le-of-lt}
 use native.Mathlib.Omega.{arith}
+use lib.Dec.{lit<}
+use Rattle.base.proofs.Counting.{case, leb-yes, yes-leb}
+use Rattle.roots.proofs.Fraction.{mul-pow}
+use Rattle.channel.specs.Channel.{thresholdNum, curveDen, lineNum, lineDen}
+use Rattle.channel.specs.Curve.{Fraction, _over_, power, atMost, Same, raised, decodeSplit, encodeSplit, DecodesByte, halfBefore, TakesByte}
 
--- a / b and c / d are the same fraction
-abbrev Same : ℕ → ℕ → ℕ → ℕ → Type 0
-Same a b c d = a * d ≡ c * b
+-- ---- fractions
 
--- k / 255 is at most 0.04045 just for the bytes up to 10
-pub bytes-low : (k : ℕ) → k ≤ 10 → k * 100000 ≤ 4045 * 255
-bytes-low k h = omega arith
+-- fractions of one value have powers of one value
+same-power : (p q : Fraction) (n : ℕ) → Same p q → Same (power p n) (power q n)
+same-power p q n e = sym (mul-pow (p .num) (q .den) n) ∙ ap (λ (x : ℕ). x ^ n) e ∙ mul-pow (q .num) (p .den) n
 
-pub bytes-high : (k : ℕ) → 10 < k → 4045 * 255 < k * 100000
-bytes-high k h = omega arith
+up-to : (p q : Fraction) → p .num * q .den ≤ q .num * p .den → atMost p q ≡ true
+up-to p q h = yes-leb h
 
--- so is (j - 1/2) / 255 = (2 j - 1) / 510
-pub halves-low : (j : ℕ) → j ≤ 10 → (2 * j - 1) * 100000 ≤ 4045 * 510
-halves-low j h = omega arith
+above : (p q : Fraction) → q .num * p .den < p .num * q .den → atMost p q ≡ false
+above p q h = case (atMost p q) (λ y. absurd (not-le-of-lt h (leb-yes y))) (λ z. z)
 
-pub halves-high : (j : ℕ) → 10 < j → 4045 * 510 < (2 * j - 1) * 100000
-halves-high j h = omega arith
+-- ---- decoding
 
--- (k / 255 + 55 / 1000) / (1055 / 1000) is (40 k + 561) / 10761
-pub decode-curve : (k : ℕ) → Same ((k * 1000 + 55 * 255) * 1000) (255 * 1000 * 1055) (40 * k + 561) 10761
-decode-curve k = omega arith
+pub decodes-byte : (k : ℕ) → DecodesByte k
+decodes-byte k =
+    record {
+      straight = λ h. rw (up-to (k over 255) decodeSplit (omega arith));
+      curved =
+        λ h. rw (above (k over 255) decodeSplit (omega arith))
+        (same-power (_ over 10761) (raised (k over 255)) 12 (omega arith));
+    }
 
--- ((2 j - 1) / 510 + 55 / 1000) / (1055 / 1000) is (40 j + 541) / 10761
-pub threshold-curve : (j : ℕ) → 0 < j → Same (((2 * j - 1) * 1000 + 55 * 510) * 1000) (510 * 1000 * 1055) (40 * j + 541) 10761
-threshold-curve j h = omega arith
+-- ---- encoding
 
--- (2 j - 1) / 510 / (1292 / 100) is 10 (2 j - 1) / 65892
-pub threshold-line : (j : ℕ) → Same ((2 * j - 1) * 100) (510 * 1292) (10 * (2 * j - 1)) 65892
-threshold-line j = omega arith
+-- the threshold of the byte 11 is above the split, and so is each after it
+threshold-above : (j : ℕ) → 10 < j → atMost (thresholdNum j over curveDen) (power encodeSplit 5) ≡ false
+threshold-above j h =
+    above (thresholdNum j over curveDen) (power encodeSplit 5)
+    (lt-of-lt-of-le (lit< {m = encodeSplit .num ^ 5 * curveDen} {n = thresholdNum 11 * encodeSplit .den ^ 5} tt)
+    (mul-le-mul-right (encodeSplit .den ^ 5) (pow-le-pow-left {n = 40 * 11 + 541} {m = 40 * j + 541} (omega arith) 12)))
+
+pub takes-byte : (j : ℕ) → 0 < j → TakesByte j
+takes-byte j l =
+    record {
+      straight = λ h. rw (up-to (lineNum j over lineDen) encodeSplit (omega arith)) (omega arith);
+      curved =
+        λ h. rw (threshold-above j h)
+        (same-power (_ over 10761) (raised (halfBefore j)) 12 (omega arith));
+    }
