@@ -29,24 +29,27 @@ decodes-byte k =
     record {
       straight = λ h. rw (up-to (k over 255) decodeSplit (omega arith));
       curved =
-        λ h. rw (above (k over 255) decodeSplit (omega arith))
-        (same-power (_ over 10761) (raised (k over 255)) 12 (omega arith));
+          λ h. rw (above (k over 255) decodeSplit (omega arith))
+          (same-power (_ over 10761) (raised (k over 255)) 12 (omega arith));
     }
 
 -- ---- encoding
+
+threshold-rises : (i j : ℕ) → i ≤ j → thresholdNum i ≤ thresholdNum j
+threshold-rises i j h = pow-le-pow-left (omega arith) 12
 
 -- the threshold of the byte 11 is above the split, and so is each after it
 threshold-above : (j : ℕ) → 10 < j → atMost (thresholdNum j over curveDen) (power encodeSplit 5) ≡ false
 threshold-above j h =
     above (thresholdNum j over curveDen) (power encodeSplit 5)
     (lt-of-lt-of-le (lit< {m = encodeSplit .num ^ 5 * curveDen} {n = thresholdNum 11 * encodeSplit .den ^ 5} tt)
-    (mul-le-mul-right (encodeSplit .den ^ 5) (pow-le-pow-left {n = 40 * 11 + 541} {m = 40 * j + 541} (omega arith) 12)))
+    (mul-le-mul-right (encodeSplit .den ^ 5) (threshold-rises 11 j h)))
 
 pub takes-byte : (j : ℕ) → 0 < j → TakesByte j
 takes-byte j l =
     record {
       straight = λ h. rw (up-to (lineNum j over lineDen) encodeSplit (omega arith)) (omega arith);
       curved =
-        λ h. rw (threshold-above j h)
-        (same-power (_ over 10761) (raised (halfBefore j)) 12 (omega arith));
+          λ h. rw (threshold-above j h)
+          (same-power (_ over 10761) (raised (halfBefore j)) 12 (omega arith));
     }
