@@ -9,7 +9,7 @@ use lib.ListN.{length}
 use Rattle.base.proofs.Counting.{case, clash, either, table-at}
 use Rattle.rules.specs.Regions.{opaque, Joined, here, Symmetric}
 use Rattle.rules.specs.Pass.{Rule, State, marked, small, freezes, fates, pass, moves, fresh, clean}
-use Rattle.rules.specs.Claims.{cleaned, Frozen}
+use Rattle.rules.proofs.Shown.{cleaned, Frozen}
 use Rattle.rules.specs.Promises.{Freezes, WasFrozen}
 use Rattle.rules.proofs.Roots.{join-right, opaque-below}
 use Rattle.rules.proofs.Passes.{fate-at, fate-join, pass-length, small-opaque, small-was, small-region, frozen-at}

@@ -1,5 +1,6 @@
 pub mod Reading
 pub mod Roots
+pub mod Shown
 pub mod Passes
 pub mod Runs
 pub mod Images

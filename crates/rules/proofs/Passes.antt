@@ -21,7 +21,8 @@ use lib.Seq.{ext-getD}
 use Rattle.base.specs.Places.{table, any}
 use Rattle.rules.specs.Regions.{at, opaque, index, Joined, here, step, held, roots, root, inside, first, Symmetric}
 use Rattle.rules.specs.Pass.{Rule, State, View, marked, size, few, isSmall, isLarge, small, large, smalls, view, Verdict, stay, merge, freeze, voter, votes, most, top, frequent, choose, target, judged, pending, decided, verdict, painted, merges, freezes, fates, fate, applied, pass, repaints}
-use Rattle.rules.specs.Claims.{Apart, Frozen, Left, apart, frozen, barred}
+use Rattle.rules.specs.Claims.{Apart}
+use Rattle.rules.proofs.Shown.{Frozen, Left, apart, frozen, barred}
 use Rattle.base.proofs.Counting.{case, clash, both, left, right, not-true, not-false, eqb-yes, yes-eqb, leb-yes, yes-leb, no-leb, table-at, table-length, any-yes, yes-any, any-no, count-mono, count-less, count-some, count-yes, greatest-above, greatest-at, either, or-left, or-right}
 use Rattle.rules.proofs.Roots.{to-link, join-left, join-right, join-same, join-trans, join-sym, opaque-below, joined-root, root-below, root-le, clear-root, join-root, root-first, root-root, inside-join, join-inside, lift-join}
 

@@ -22,10 +22,12 @@ use Rattle.rules.specs.Outline.{asked, pads}
 use Rattle.rules.specs.Run.{Limits, ruleOn, tidy, tidyIf, limitsOf, toned, padAllowed, Ran, process}
 use Rattle.rules.specs.Rows.{tooShort}
 use Rattle.rules.specs.Entries.{orphansRefusal, orphansAnswer, orphansCells, runRefusal, runAnswer, runCells, runPalette, factsOf}
-use Rattle.rules.specs.Claims.{cleaned, Apart, KeepsOpaque}
+use Rattle.rules.specs.Claims.{Apart, KeepsOpaque}
 use Rattle.rules.specs.Promises.{WasFrozen, ruleFor, initial, ruled, front, Cleans, Agree, RunsAgree, TwoCalls, CleansIf, firstLeft, secondMet, beforeRun, RunCall}
+use Rattle.rules.proofs.Shown.{cleaned}
 use Rattle.rules.proofs.Grids.{eight-symmetric}
 use Rattle.rules.proofs.Runs.{run-length, run-kept}
+use Rattle.rules.proofs.Images.{no-repeat}
 use Rattle.rules.proofs.Freezing.{was-frozen}
 use Rattle.rules.proofs.Sheets.{sheet-runs}
 use Rattle.rules.proofs.Opacity.{tidied-alike, met-shown, run-shown, run-opaque}
@@ -69,6 +71,7 @@ module _ (palette : Palette) (limits : Limits) (start : Sheet) (len : length (st
         once = r .once;
         source = λ x h y. let w = r .source x y in (w .0, w .1, same x h ∙ w .2);
         bounded = r .bounded;
+        differ = λ i j l m. no-repeat rule (eight-symmetric (start .width)) k (initial palette limits start) len i j l m;
         cells = same;
         counts = refl;
         kept = λ x h e. same x h ∙ run-kept rule (eight-symmetric (start .width)) k (initial palette limits start) len x e;

@@ -10,7 +10,8 @@ use lib.ListN.{length}
 use Rattle.base.specs.Places.{count}
 use Rattle.rules.specs.Regions.{at, here, first, Symmetric}
 use Rattle.rules.specs.Pass.{Rule, State, marked, small, large, smalls, merges, fates, fate, pass, repaints, moves, fresh, clean}
-use Rattle.rules.specs.Claims.{repaintings, cleaned, Left, OneRun, TwoRuns}
+use Rattle.rules.specs.Claims.{repaintings}
+use Rattle.rules.proofs.Shown.{cleaned, Left, OneRun, TwoRuns}
 use Rattle.base.proofs.Counting.{case, clash, table-at, table-length, any-yes, any-no}
 use Rattle.rules.proofs.Roots.{join-right, opaque-below}
 use Rattle.rules.proofs.Passes.{pass-length, large-kept, large-stays, repainted, repainted-large, not-both, repaints-below, repainted-small, unpainted-kept, large-source, fewer-smalls, frozen-length, still, small-counted, Whole, whole-stays, left-why}

@@ -16,7 +16,8 @@ use Rattle.rules.specs.Palette.{Palette}
 use Rattle.rules.specs.Regions.{Symmetric, roots, first}
 use Rattle.rules.specs.Pass.{Rule, State, small, smalls, fresh, clean}
 use Rattle.rules.specs.Run.{Limits, ruleOn}
-use Rattle.rules.specs.Claims.{Apart, Frozen, Left, apart, frozen, barred, SheetRuns}
+use Rattle.rules.specs.Claims.{Apart}
+use Rattle.rules.proofs.Shown.{Frozen, Left, apart, frozen, barred, SheetRuns}
 use Rattle.rules.proofs.Grids.{eight-symmetric}
 use Rattle.rules.proofs.Runs.{two-runs}
 use Rattle.rules.proofs.More.{none-small}

@@ -55,6 +55,8 @@ module _ (palette : Palette) (limits : Limits) (start : Sheet) where
         (y : ℕ) × (large ruleFor (start .cells) y ≡ true) × (at left x ≡ at (start .cells) y)
     -- the count of repainting passes is at most the number of small regions at the start
     pub bounded : count ≤ smalls ruleFor (start .cells)
+    -- no image comes back: after i and after j of its repainting passes, i < j, the cells differ
+    pub differ : (i j : ℕ) → i < j → j ≤ count → ruled i .state .cells ≡ ruled j .state .cells → ⊥
     -- it leaves the rule's cells and reports the rule's count
     pub cells : (x : ℕ) → x < area start → at left x ≡ at (ruled k .state .cells) x
     pub counts : count ≡ ruled k .count
