@@ -867,81 +867,160 @@ fn run_call(cells: &[i32], h: usize, w: usize, palette: &[f64], tileset: bool) -
     Call { entry: Entry::Run, args }
 }
 
-/// The specification's examples M1 to M12, full palettes, and the errors that this code invites.
-pub fn named(entry: Entry) -> Vec<Call> {
-    let q = [0.0, 0.0, 0.0, 6.0, 8.0, 0.0, 3.0, 4.0, 0.0];
-    let q7 = [0.0, 0.0, 0.0, 6.0, 8.0, 0.0, 6.0, 4.0, 0.0];
+const Q: [f64; 9] = [0.0, 0.0, 0.0, 6.0, 8.0, 0.0, 3.0, 4.0, 0.0];
+const Q7: [f64; 9] = [0.0, 0.0, 0.0, 6.0, 8.0, 0.0, 6.0, 4.0, 0.0];
+
+/// M9's sheet.
+const STAIRCASE: [i32; 16] = [0, 0, 0, 1, 0, 1, 1, 0, 0, 1, 0, 0, 1, 0, 0, 0];
+
+/// M9 with a 2 beside its corner.
+const DOTTED: [i32; 16] = [0, 0, 0, 1, 2, 1, 1, 0, 0, 1, 0, 0, 1, 0, 0, 0];
+
+fn named_orphans() -> Vec<Call> {
     let centre = [0, 0, 0, 0, 2, 0, 0, 0, 0];
-    let stairs = [0, 0, 0, 1, 0, 1, 1, 0, 0, 1, 0, 0, 1, 0, 0, 0];
     let rng = &mut Rng(256);
+    let full = colours(rng, 256);
+    let far = [0.0, 0.0, 0.0, 55.0, 0.0, 0.0, 50.0, 0.0, 0.0, 54.0, 0.0, 0.0];
+    let greys: Vec<f64> = [100.0, 0.0, 5.0, 3.0, 98.0, 99.0].iter().flat_map(|&l| [l, 0.0, 0.0]).collect();
+    let mut sheet = vec![7; 16];
+    sheet[5] = 255;
+    sheet[10] = 128;
+    vec![
+        orphans_call(&centre, 3, 3, &Q, 2, 5, 25.0),
+        orphans_call(&centre, 3, 3, &Q, 2, 5, 5.0),
+        orphans_call(&[0, 0, 1, 2], 1, 4, &Q, 2, 1, 25.0),
+        orphans_call(&[0, 0, 1, 2], 1, 4, &Q, 2, 2, 25.0),
+        orphans_call(&centre, 3, 3, &Q, 1, 5, 25.0),
+        orphans_call(&[0], 1, 1, &Q, 2, 5, 25.0),
+        orphans_call(&[0, 0, 2, 1, 1], 1, 5, &Q, 2, 5, 25.0),
+        orphans_call(&[0, 0, 2, 1, 1], 1, 5, &Q7, 2, 5, 25.0),
+        orphans_call(&[], 0, 7, &Q, 2, 5, 25.0),
+        orphans_call(&sheet, 4, 4, &full, 3, 5, 1024.0),
+        // a neighbour of two cells of a region counts once: 1 wins
+        orphans_call(&[2, 2, 1, 0, -1, 1, 0, 0, 1], 3, 3, &Q, 3, 5, 25.0),
+        orphans_call(&[2, 2, 0, 1, 1, 0, 1, 1, 0], 3, 3, &Q, 3, 5, 25.0),
+        // most votes before least distance
+        orphans_call(&[0, 0, 0, 0, 2, 1, 0, 1, 1], 3, 3, &Q7, 2, 5, 25.0),
+        // small regions do not vote: of two that touch, only the one beside a large region is repainted
+        orphans_call(&[0, 0, 0, 2, 1, 1], 1, 6, &Q, 3, 1, 25.0),
+        // frozen in the first pass, and not thawed when a nearer index comes beside it
+        orphans_call(&[0, 0, 2, 3, 1, 1], 1, 6, &far, 2, 5, 25.0),
+        orphans_call(&[5, 4, 0, 0, 1, 2, 3, 3], 1, 8, &greys, 2, 5, 25.0),
+        // equal votes, equal distances of unequal squares: the lowest index
+        orphans_call(&[1, 1, 0, 2, 2], 1, 5, &root_tie(rng), 2, 5, 1024.0),
+        // indices are checked from region limit 2 on, and not at 1
+        orphans_call(&[2], 1, 1, &Q[..6], 2, 5, 25.0),
+        orphans_call(&[2], 1, 1, &Q[..6], 1, 5, 25.0),
+    ]
+}
+
+fn named_jaggies() -> Vec<Call> {
+    // two corners that touch: both are judged by the input
+    let touching = [
+        1, 1, 1, 0, 1, //
+        1, 0, 0, 0, 1, //
+        1, 0, 1, 1, 1, //
+        0, 0, 1, 0, 1, //
+        1, 1, 1, 1, 1,
+    ];
+    let turned: Vec<i32> = touching.iter().rev().copied().collect();
+    // a cell that was replaced completes no other corner
+    let completed = [
+        0, 1, 0, 0, 0, //
+        1, 1, 1, 1, 0, //
+        1, 0, 0, 1, 0, //
+        1, 0, 1, 0, 1, //
+        0, 0, 0, 0, 0,
+    ];
+    vec![
+        jaggies_call(&STAIRCASE, 4, 4),
+        jaggies_call(&STAIRCASE[..12], 3, 4),
+        jaggies_call(&touching, 5, 5),
+        jaggies_call(&turned, 5, 5),
+        jaggies_call(&completed, 5, 5),
+        // a corner has one index in all six cells around it
+        jaggies_call(&DOTTED, 4, 4),
+    ]
+}
+
+fn named_outline() -> Vec<Call> {
+    let full: Vec<f64> = (0..256)
+        .flat_map(|i| [f64::from(i) / 4.0 + 30.0, f64::from(i % 16) - 8.0, f64::from(i / 16) - 8.0])
+        .collect();
+    let spot = [-1, -1, -1, -1, 3, -1, -1, -1, -1];
+    // entry 1 has the lesser square, yet both are at distance 1 from black
+    let alike = [1.0, f64::powi(2.0, -26), 0.0, 1.0, 0.0, 0.0];
+    vec![
+        outline_call(&[0], 1, 1, &Q, 1, 0.0, [0; 3], true, true),
+        outline_call(&[0], 1, 1, &Q, 1, 0.0, [0; 3], false, true),
+        outline_call(&[0, -1], 1, 2, &[], 2, 0.0, [1, 2, 3], false, false),
+        outline_call(&spot, 3, 3, &full, 1, 0.5, [0; 3], true, false),
+        outline_call(&spot, 3, 3, &full[3..], 1, 0.5, [0; 3], true, false),
+        outline_call(&[0, -1], 1, 2, &alike, 1, 1.0, [0; 3], false, true),
+    ]
+}
+
+fn named_run() -> Vec<Call> {
+    // more single cells than the passes can take, no ring: five passes, then one
+    let chain = [0, 0, 1, 2, 1, 2, 1, 2, 1, 2];
+    let dark = color::rgb8_to_lab(&[0x01, 0x17, 0x14]);
+    // no outline, the palette kept: the sheet is cleaned to M9, and then its corner goes
+    let kept = [(OUTLINE, num(0)), (SATURATED, num(1)), (FIXED, num(1))];
+    let mut calls = vec![
+        run_call(&chain, 1, 10, &Q, true),
+        run_call(&[0], 1, 1, &dark, false),
+        changed(run_call(&DOTTED, 4, 4, &Q, false), kept),
+    ];
+    calls.extend(table().into_iter().map(|(call, _)| call));
+    calls
+}
+
+// the places of some of the arguments of `run`
+const CELLS: usize = 0;
+const HEIGHT: usize = 1;
+const COUNT: usize = 4;
+const BETA: usize = 5;
+const ORPHANS: usize = 6;
+const OUTLINE: usize = 10;
+const SATURATED: usize = 16;
+const FIXED: usize = 17;
+const WORK: usize = 19;
+
+fn changed<const N: usize>(mut call: Call, changes: [(usize, Arg); N]) -> Call {
+    for (place, arg) in changes {
+        call.args[place] = arg;
+    }
+    call
+}
+
+/// The examples of the specification's table of refusals as it writes them, rows 1 to 8, each with its number. Rows 9 and 10 have theirs among the hex colours and the texts of `silk`.
+pub fn table() -> Vec<(Call, u32)> {
+    let one = || run_call(&[0], 1, 1, &Q, false);
+    vec![
+        (changed(one(), [(HEIGHT, num(513))]), 1),
+        (changed(one(), [(CELLS, lent_cells(vec![0], 8))]), 2),
+        (changed(one(), [(OUTLINE, num(0)), (WORK, work(7))]), 3),
+        (changed(one(), [(COUNT, num(257))]), 4),
+        (run_call(&[0], 1, 1, &[1025.0, 0.0, 0.0], false), 5),
+        (changed(one(), [(BETA, real(17.0))]), 6),
+        (run_call(&[2], 1, 1, &Q[..6], false), 7),
+        (changed(run_call(&[0, -1], 1, 2, &[], false), [(ORPHANS, num(0))]), 8),
+    ]
+}
+
+/// The specification's examples, full palettes, and the errors that this code invites.
+pub fn named(entry: Entry) -> Vec<Call> {
     match entry {
-        Entry::RemoveOrphans => {
-            let full = colours(rng, 256);
-            let far = [0.0, 0.0, 0.0, 55.0, 0.0, 0.0, 50.0, 0.0, 0.0, 54.0, 0.0, 0.0];
-            let mut sheet = vec![7; 16];
-            sheet[5] = 255;
-            sheet[10] = 128;
-            vec![
-                orphans_call(&centre, 3, 3, &q, 2, 5, 25.0),
-                orphans_call(&centre, 3, 3, &q, 2, 5, 5.0),
-                orphans_call(&[0, 0, 1, 2], 1, 4, &q, 2, 1, 25.0),
-                orphans_call(&[0, 0, 1, 2], 1, 4, &q, 2, 2, 25.0),
-                orphans_call(&centre, 3, 3, &q, 1, 5, 25.0),
-                orphans_call(&[0], 1, 1, &q, 2, 5, 25.0),
-                orphans_call(&[0, 0, 2, 1, 1], 1, 5, &q, 2, 5, 25.0),
-                orphans_call(&[0, 0, 2, 1, 1], 1, 5, &q7, 2, 5, 25.0),
-                orphans_call(&[], 0, 7, &q, 2, 5, 25.0),
-                orphans_call(&sheet, 4, 4, &full, 3, 5, 1024.0),
-                // a neighbour of two cells of a region counts once: 1 wins
-                orphans_call(&[2, 2, 1, 0, -1, 1, 0, 0, 1], 3, 3, &q, 3, 5, 25.0),
-                // frozen in the first pass, and not thawed when a nearer index comes beside it
-                orphans_call(&[0, 0, 2, 3, 1, 1], 1, 6, &far, 2, 5, 25.0),
-                // equal votes, equal distances of unequal squares: the lowest index
-                orphans_call(&[1, 1, 0, 2, 2], 1, 5, &root_tie(rng), 2, 5, 1024.0),
-            ]
-        }
-        Entry::FixJaggies => {
-            // two corners that touch: both are judged by the input
-            let touching = [
-                1, 1, 1, 0, 1, //
-                1, 0, 0, 0, 1, //
-                1, 0, 1, 1, 1, //
-                0, 0, 1, 0, 1, //
-                1, 1, 1, 1, 1,
-            ];
-            let turned: Vec<i32> = touching.iter().rev().copied().collect();
-            vec![
-                jaggies_call(&stairs, 4, 4),
-                jaggies_call(&stairs[..12], 3, 4),
-                jaggies_call(&touching, 5, 5),
-                jaggies_call(&turned, 5, 5),
-            ]
-        }
-        Entry::Run => {
-            // more single cells than the passes can take, no ring: five passes, then one
-            let chain = [0, 0, 1, 2, 1, 2, 1, 2, 1, 2];
-            let dark = color::rgb8_to_lab(&[0x01, 0x17, 0x14]);
-            vec![run_call(&chain, 1, 10, &q, true), run_call(&[0], 1, 1, &dark, false)]
-        }
+        Entry::RemoveOrphans => named_orphans(),
+        Entry::FixJaggies => named_jaggies(),
+        Entry::AddOutline => named_outline(),
+        Entry::Run => named_run(),
         Entry::LabToRgb8 => {
             // linear values that are thresholds
             let rgb = [0, 2, 3, 0, 3, 1, 0, 9, 2, 0, 9, 3, 0, 9, 6, 1, 0x17, 0x14];
             let lab: Vec<f64> = color::rgb8_to_lab(&rgb).iter().map(|v| v * 0.5).collect();
             let out = Arg::Bytes(vec![SPARE_BYTE; lab.len()]);
             vec![Call { entry, args: vec![Arg::Reals(lab), out] }]
-        }
-        Entry::AddOutline => {
-            let full: Vec<f64> = (0..256)
-                .flat_map(|i| [f64::from(i) / 4.0 + 30.0, f64::from(i % 16) - 8.0, f64::from(i / 16) - 8.0])
-                .collect();
-            let spot = [-1, -1, -1, -1, 3, -1, -1, -1, -1];
-            vec![
-                outline_call(&[0], 1, 1, &q, 1, 0.0, [0; 3], true, true),
-                outline_call(&[0], 1, 1, &q, 1, 0.0, [0; 3], false, true),
-                outline_call(&[0, -1], 1, 2, &[], 2, 0.0, [1, 2, 3], false, false),
-                outline_call(&spot, 3, 3, &full, 1, 0.5, [0; 3], true, false),
-                outline_call(&spot, 3, 3, &full[3..], 1, 0.5, [0; 3], true, false),
-            ]
         }
         Entry::ApplySaturation => {
             let full: Vec<f64> = (0..768).map(|i| f64::from(i % 129) - 64.0).collect();

@@ -382,6 +382,9 @@ fn colour_limits(tally: &mut Tally, count: usize) {
 
 /// Every damage alone, which has to be refused by its row, and all pairs of them.
 fn damaged(tally: &mut Tally) {
+    for (call, row) in cases::table() {
+        assert_eq!(tally.compare(&call), row, "the table of refusals: {}", line(&call));
+    }
     for (entry, name) in ENTRIES {
         assert_eq!(tally.compare(&cases::sound(entry)), 0, "{name}: the sound call");
         for (call, row) in cases::singles(entry) {
