@@ -1,20 +1,22 @@
-# make test     everything that the gate does; its last line is 'N passed, 0 failed'
-# make run      proves and builds the program silk, and runs it on the sheets of examples/
-# make lib      the C library: target/staticlib/libsilk_c.a, declared in include/silk.h
-# make example  builds examples/c with it and runs that
-# make compare  the library beside the Rust original in SHARED, CASES random calls of each entry and more
-# make bench    times of both
-.PHONY: test run lib example compare bench compared
+# make test         proves every crate, runs every program, tries the edits that must be refused, then runs the C example; its last line is 'N passed, 0 failed'
+# make run          proves and builds the program silk, and runs it on the sheets of examples/
+# make lib          the C library: target/staticlib/libsilk_c.a, declared in include/silk.h
+# make example      builds examples/c with it and runs that
+# make compare      the library beside the Rust original in SHARED, CASES random calls of each entry and more
+# make bench        times of both
+# make model        the Python model against the stored answers, the texts of silk and wrong rules
+# make definitions  the definitions of rules against the model on ROWS random calls, computed by the checker
+.PHONY: test run lib example compare bench compared model definitions
 CFLAGS = -std=c11 -Wall -Wextra -Wpedantic -Werror
 SHARED = ../shared
 CASES = 20000
+ROWS = 60
+SEED = 1
 COMPARE = target/cargo/release/compare
 LIB = target/staticlib/libsilk_c.a
 
 test:
-	@if command -v $(CC) >/dev/null; then $(MAKE) -s example; else echo 'no C compiler: examples/c is left out'; fi
-	@rt fmt --check
-	@rt ci
+	@CC='$(CC)' sh tools/test.sh
 
 run:
 	@rt check silk
@@ -37,3 +39,11 @@ compare: compared
 
 bench: compared
 	@$(COMPARE) bench
+
+model:
+	@python3 tools/check_vectors.py
+	@python3 tools/check_silk.py
+	@python3 tools/mutants.py
+
+definitions:
+	@sh tools/definitions.sh $(ROWS) $(SEED)

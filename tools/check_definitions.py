@@ -4,18 +4,35 @@
     check_definitions.py OUT [ROWS [SEED]]
 
 writes a crate to the folder OUT whose one theorem, computed by the checker, says that cleaning, corners, outline and run
-of the definitions give what the model gives, row by row. Prove it by listing it in crates.txt as
-`NAME: base roots channel color rules` and `rt check NAME`.
+of the definitions give what the model gives, row by row. `make definitions` writes it and has it proved.
 """
 import os
 import random
+import re
 import struct
 import sys
 
 sys.path.insert(0, os.path.dirname(os.path.abspath(__file__)))
 import model
 
-HEAD = open(os.path.join(os.path.dirname(os.path.abspath(__file__)), "..", "crates/rules/proofs/Examples.antt")).read()
+CRATES = os.path.join(os.path.dirname(os.path.abspath(__file__)), "..", "crates")
+
+# what computing by the definitions opens
+OPENED = ["base/Places", "base/Outputs", "base/Doubles", "roots/Computed", "roots/Units", "channel/Channel", "color/Lab"] + [
+    "rules/" + name for name in ("Sheet", "Palette", "Grid", "Regions", "Pass", "Corners", "Outline", "Run")]
+IEEE = "ofInt add sub mul div round lt le eq neg sum units odd size span climb ofBits ofFields toBits"
+
+
+def opened():
+    """The imports, and the names that are unfolded."""
+    imports, names = [], []
+    for place in OPENED:
+        crate, module = place.split("/")
+        imports.append(f"use Rattle.{crate}.specs.{module}")
+        with open(os.path.join(CRATES, crate, "specs", module + ".antt"), encoding="utf-8") as file:
+            found = re.findall(r"^ *unfoldable pub ([^ ]+) ", file.read(), re.M)
+        names += [f"{module}.{name}" for name in found]
+    return imports, names + [f"Ieee.{name}" for name in IEEE.split()] + ["Count.trailingZeros"]
 
 
 def z(n):
@@ -130,19 +147,17 @@ def main():
     out = sys.argv[1]
     n = int(sys.argv[2]) if len(sys.argv) > 2 else 60
     seed = int(sys.argv[3]) if len(sys.argv) > 3 else 1
-    names = HEAD[HEAD.index("unfolding cases outcome") + len("unfolding cases outcome"):HEAD.index("examples = refl")].rstrip()
-    imports = [l for l in HEAD.split("\n") if l.startswith("use ") and "specs.Cases" not in l and "Rattle.color" not in l and "mathlib.Core.List" not in l]
-    imports = [l.replace("Rattle.rules.specs.", "Rattle.rules.specs.") for l in imports]
+    imports, names = opened()
     pairs = list(rows(n, random.Random(seed)))
     text = "-- The definitions against an independent model. Assumes nothing.\n" + "\n".join(imports) + """
+use mathlib.Core.Path.{_≡_, refl}
+use lib.Ieee as Ieee
+use lib.Count
 use Prim.Native.Nat.{ℕ}
 use mathlib.Core.Bool.{Bool, true, false, cond}
 use mathlib.Core.List.{List, [], _∷_, map}
 use lib.IntN.{ℤ, pos, negsuc}
 use lib.Ieee.{Float, binary64, ofBits, toBits}
-use Rattle.base.specs.Outputs
-use Rattle.channel.specs.Channel
-use Rattle.color.specs.Lab
 use Rattle.rules.specs.declared.Outline.{Outline as How}
 use Rattle.rules.specs.declared.Outline.the-variants.{None, Auto, Rgb}
 use Rattle.rules.specs.declared.LineIndex.{LineIndex}
@@ -172,13 +187,11 @@ ran c sat f m s p =
     record { cells = o .sheet .cells; lab = map (toBits binary64) (o .palette .lab); index = o .index; facts = o .sheet .height ∷ o .sheet .width ∷ o .palette .count ∷ cond (o .clipped) 1 0 ∷ o .passes ∷ o .again ∷ [] }
 
 """
-    words = ("cleaned trimmed lined ran Outputs.filled Palette.saturate Palette.recoloured Palette.firstWhere Outline.sameRgb8 Run.padAllowed "
-             "Channel.decodeOf Channel.thresholdOf Channel.byteOf Channel.straight Computed.cbrtOf Computed.leastNotBelow Ieee.toBits Ieee.div Lab.rgb8ToLab Lab.labToRgb8 Lab.labOfXyz Lab.xyzOfLab Lab.matVec Lab.dot Lab.labF Lab.labFInv "
-             "Lab.xyzFromRgb Lab.rgbFromXyz Lab.white Lab.edge Lab.slope Lab.shift Lab.edgeInv")
+    words = " ".join(["cleaned", "trimmed", "lined", "ran"] + names)
     for j in range(0, len(pairs), 8):
         part = pairs[j:j + 8]
         text += f"rows{j} : _≡_ {{A = List Shown}}\n    ({lst(chr(10) + '    ' + a for a, _ in part)[1:-1]})\n    ({lst(chr(10) + '    ' + b for _, b in part)[1:-1]})\n"
-        text += f"unfolding {words} {' '.join(names.split())}\nrows{j} = refl\n\n"
+        text += f"unfolding {words}\nrows{j} = refl\n\n"
     os.makedirs(os.path.join(out, "src"), exist_ok=True)
     os.makedirs(os.path.join(out, "specs"), exist_ok=True)
     open(os.path.join(out, "src/lib.rt"), "w").write("// Rows of the definitions against the model.\n")

@@ -1,5 +1,5 @@
 #!/usr/bin/env python3
-"""Runs a program on the cases of crates/vectors_silk and on examples/: check_silk.py PROGRAM [ARGUMENT...]
+"""Runs a program on the cases of crates/vectors_silk and on examples/: check_silk.py [PROGRAM [ARGUMENT...]], none: the model (silk.py).
 
 Prints each input whose output is another than the stored one, and how many were tried.
 """
@@ -9,6 +9,8 @@ import os
 import re
 import subprocess
 import sys
+
+import silk
 
 ROOT = os.path.join(os.path.dirname(os.path.abspath(__file__)), "..")
 
@@ -28,14 +30,20 @@ def cases():
             yield os.path.basename(path), file.read(), out.read()
 
 
+def output(program, data):
+    if not program:
+        return silk.silk(data)
+    return subprocess.run(program, input=data, stdout=subprocess.PIPE, check=False).stdout
+
+
 def main(program):
     tried, differing = 0, 0
     for name, data, expected in cases():
-        done = subprocess.run(program, input=data, stdout=subprocess.PIPE, check=False)
+        printed = output(program, data)
         tried += 1
-        if done.stdout != expected:
+        if printed != expected:
             differing += 1
-            print(f"{name}: printed {done.stdout[:200]!r}, stored {expected[:200]!r}")
+            print(f"{name}: printed {printed[:200]!r}, stored {expected[:200]!r}")
     print(f"{tried} inputs, {differing} differ")
     return 1 if differing else 0
 

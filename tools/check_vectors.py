@@ -1,5 +1,5 @@
 #!/usr/bin/env python3
-"""Replays stored answers on the model: check_vectors.py ENTRY [FILE], FILE '-': standard input, none: the entry's own file.
+"""Replays stored answers on the model: check_vectors.py [ENTRY [FILE]], FILE '-': standard input, none: the entry's own file. Without ENTRY: all of them.
 
 Prints each case that differs, and how many cases were tried.
 """
@@ -122,4 +122,4 @@ def main(name, path=None):
 
 
 if __name__ == "__main__":
-    sys.exit(main(*sys.argv[1:]))
+    sys.exit(main(*sys.argv[1:]) if sys.argv[1:] else max([main(name) for name in ARGUMENTS]))
