@@ -14,7 +14,8 @@ fn rust<T: Debug>(what: impl FnOnce() -> T + UnwindSafe) -> String {
 }
 
 fn show(input: &str, rust: String, specified: u32) {
-    println!("{input} | {rust} | refused {specified}");
+    let answer = if specified == 0 { "takes it".to_string() } else { format!("refused {specified}") };
+    println!("{input} | {rust} | {answer}");
 }
 
 fn judged(entry: Entry, args: Vec<Arg>) -> u32 {
@@ -55,6 +56,11 @@ pub fn all() {
         list
     };
     show("apply_saturation, 4 doubles", rust(trailing), no);
+    let no = judged(
+        Entry::FixJaggies,
+        vec![Arg::Cells(vec![0, 0, 7]), Arg::Num(1), Arg::Num(2), Arg::Work(vec![0; 16])],
+    );
+    show("fix_jaggies, 1 x 2 in a list of 3 cells", rust(|| postprocess::fix_jaggies(&[0, 0, 7], 1, 2)), no);
     let cell = || postprocess::remove_orphans(&[0, 2], 1, 2, &[0.0; 6], 2, 5, 25.0);
     show("remove_orphans, cell 2 of 2 colours", rust(cell), 7);
     show("add_outline, row 0,-1, no colours, auto", outline(&[], "auto", false), 8);

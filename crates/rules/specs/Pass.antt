@@ -180,7 +180,7 @@ pass rule s = applied rule s (fates rule s)
 unfoldable pub repaints : Rule → State → ℕ → Bool
 repaints rule s p = merges (fate (fates rule s) p)
 
--- a pass from s repaints some cell
+-- a pass with the verdicts f repaints some cell
 unfoldable pub moves : Rule → List Verdict → Bool
 moves rule f = any (rule .places) (λ p. merges (fate f p))
 
