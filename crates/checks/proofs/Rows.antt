@@ -1,9 +1,10 @@
 -- Refusals row by row, as code meets them: what it tells that a row applies, and that it does not. Assumes nothing.
-use Prim.Native.Nat.{ℕ, _≤_}
+use Prim.Native.Nat.{ℕ, _*_, _≤_}
 use mathlib.Core.Path.{_≡_, refl, ap}
 use mathlib.Core.Bool.{Bool, true, false, not, _||_, cond}
 use mathlib.Core.List.{List, [], _∷_, _++_}
 use mathlib.Core.Option.{Option, none, some}
+use native.Mathlib.Nat.{mul-le-mul}
 use native.Mathlib.Omega.{arith}
 use borrow.Author.Tests.{ltb-false, eqb-true, not-false}
 use lib.Dec.{ltb, eqb}
@@ -69,6 +70,9 @@ neither false b e = (refl, e)
 pub not-large : (h w : ℕ) → tooLarge h w .applies ≡ false → (h ≤ 512) × (w ≤ 512)
 unfolding tooLarge
 not-large h w e = let k = neither (ltb 512 h) (ltb 512 w) e in (ltb-false 512 h (k .0), ltb-false 512 w (k .1))
+
+pub few-cells : (h w : ℕ) → tooLarge h w .applies ≡ false → h * w ≤ 262144
+few-cells h w e = let k = not-large h w e in mul-le-mul (k .0) (k .1)
 
 pub good-palette : (palette : Palette) → badPalette palette .applies ≡ false → (palette .count ≤ 256) × (length (palette .lab) ≡ 768)
 unfolding badPalette

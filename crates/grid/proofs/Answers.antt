@@ -1,48 +1,23 @@
 -- What labelling entries answer, refused or not. Assumes nothing.
 use Prim.Native.Nat.{ℕ, _*_, _≤_, _<_}
-use mathlib.Core.Path.{_≡_, refl, ap, fun-ext, _∙_}
-use mathlib.Core.Bool.{Bool, true, false, _||_}
-use mathlib.Core.List.{List, [], _∷_}
+use mathlib.Core.Path.{_≡_, ap, fun-ext, _∙_}
+use mathlib.Core.Bool.{Bool}
+use mathlib.Core.List.{List, []}
 use mathlib.Core.Option.{Option, none, some}
-use native.Mathlib.Nat.{mul-le-mul}
-use native.Mathlib.Omega.{arith}
 use borrow.Author.Tests.{ltb-false}
-use lib.Dec.{ltb}
 use lib.IntN.{ℤ}
 use lib.ListN.{length}
 use Rattle.base.specs.Outputs.{filled}
-use Rattle.base.specs.Refusals.{Row, refusal, unless, filling}
-use Rattle.base.specs.declared.Filling.the-variants.{Done, Refused}
-use Rattle.base.proofs.Counting.{case, clash}
+use Rattle.base.specs.Refusals.{unless}
 use Rattle.base.proofs.Fills.{filled-at, filled-past, filled-length, filled-is}
 use Rattle.rules.specs.declared.Labelling.the-variants as answers
 use Rattle.rules.specs.Rows.{tooLarge, tooShort, cramped}
 use Rattle.rules.specs.Masks.{labelAt, regions, gridRefusal, labelling}
+use Rattle.checks.proofs.Rows.{rows-none, not-large, few-cells}
 use Rattle.grid.specs.Planes.{cellsOf, Painted}
 use Rattle.grid.proofs.Planes.{same-labels, same-regions, painted-alike}
 
 -- ---- rows 1 to 3
-
-pub filling-done : {o : Option ℕ} → filling o ≡ Done → o ≡ none
-unfolding filling unless
-filling-done {o = none} e = refl
-filling-done {o = some n} e = let z : _≡_ {A = ℕ} 0 1 = cc in absurd (omega arith)
-
-pub filling-refused : {o : Option ℕ} {n : ℕ} → filling o ≡ Refused n → o ≡ some n
-unfolding filling unless
-filling-refused {o = none} e = let z : _≡_ {A = ℕ} 0 1 = cc in absurd (omega arith)
-filling-refused {o = some n} e = cc
-
--- no row applies
-row-clear : (r : Row) (rs : List Row) → refusal (r ∷ rs) ≡ none → (r .applies ≡ false) × (refusal rs ≡ none)
-unfolding refusal
-row-clear r rs e =
-    case (r .applies) (λ y. let f : some (r .number) ≡ none = rw y at e in absurd (let z : _≡_ {A = ℕ} 0 1 = cc in omega arith))
-    (λ z. (z, rw z at e))
-
-neither : (a b : Bool) → (a || b) ≡ false → (a ≡ false) × (b ≡ false)
-neither true b e = clash refl e
-neither false b e = (refl, e)
 
 -- the sizes of an entry that is not refused
 pub record Sizes (h w lent out work : ℕ) : Type 0 where
@@ -54,19 +29,17 @@ pub record Sizes (h w lent out work : ℕ) : Type 0 where
   pub planes : 8 * (h * w) ≤ work
 
 pub sizes-clear : {h w lent out work : ℕ} → gridRefusal h w lent out work [] ≡ none → Sizes h w lent out work
-unfolding gridRefusal tooLarge tooShort cramped
+unfolding gridRefusal tooShort cramped
 sizes-clear {h = h} {w = w} {lent = lent} {out = out} {work = work} e =
-    let one = row-clear (tooLarge h w) (tooShort lent (h * w) ∷ tooShort out (h * w) ∷ cramped work (h * w) ∷ []) e in
-    let two = row-clear (tooShort lent (h * w)) (tooShort out (h * w) ∷ cramped work (h * w) ∷ []) (one .1) in
-    let more = row-clear (tooShort out (h * w)) (cramped work (h * w) ∷ []) (two .1) in
-    let three = row-clear (cramped work (h * w)) [] (more .1) in
-    let sides = neither (ltb 512 h) (ltb 512 w) (one .0) in
-    let rows : h ≤ 512 = ltb-false 512 h (sides .0) in
-    let cols : w ≤ 512 = ltb-false 512 w (sides .1) in
+    let one = rows-none (tooLarge h w) _ e in
+    let two = rows-none (tooShort lent (h * w)) _ (one .1) in
+    let more = rows-none (tooShort out (h * w)) _ (two .1) in
+    let three = rows-none (cramped work (h * w)) [] (more .1) in
+    let sides = not-large h w (one .0) in
     record {
-      rows = rows;
-      cols = cols;
-      few = mul-le-mul rows cols;
+      rows = sides .0;
+      cols = sides .1;
+      few = few-cells h w (one .0);
       reads = ltb-false lent (h * w) (two .0);
       fills = ltb-false out (h * w) (more .0);
       planes = ltb-false work (8 * (h * w)) (three .0);

@@ -3,6 +3,7 @@ pub mod label;
 pub mod tile;
 
 use base::Filling;
+use checks::too_large;
 use rules::Labelling;
 ghost use mathlib.Core.Path.{_≡_};
 ghost use Prim.Native.Nat.{_*_, _/_, _%_, _≤_, _<_};
@@ -120,10 +121,7 @@ pub fn reached(p: usize, dy: i32, dx: i32, border: bool, h: usize, w: usize) -> 
 pub fn sizes(h: usize, w: usize, lent: usize, out: usize, work: usize) -> Filling
     ensures { λ r. ⌜ r ≡ filling (gridRefusal h w lent out work []) ⌝ }
 {
-    if 512 < h {
-        return Filling::Refused(1);
-    }
-    if 512 < w {
+    if too_large(h, w) {
         return Filling::Refused(1);
     }
     let n = h * w;

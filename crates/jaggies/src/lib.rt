@@ -1,6 +1,7 @@
 // Corner trimming: the jagged corners of one-cell staircases. The sheet is written over from its first row on; the rows that a test
 // may still read, as they were, stand in the first 3 * w numbers of the work area: 0 for a transparent cell, index + 1 otherwise.
 use base::Filling;
+use checks::too_large;
 use grid::Step;
 use grid::neighbour;
 ghost use mathlib.Core.Path.{_≡_};
@@ -230,10 +231,7 @@ pub fn fix_jaggies(cells: &mut [i32], h: usize, w: usize, work: &mut [u32]) -> F
     ensures { λ r. ⌜ r ≡ jaggiesAnswer (now (cells .entry)) h w (length (now (work .entry))) ⌝ }
     ensures { λ r. ⌜ now (cells .exit) ≡ jaggiesCells (now (cells .entry)) h w (length (now (work .entry))) ⌝ }
 {
-    if 512 < h {
-        return Filling::Refused(1);
-    }
-    if 512 < w {
+    if too_large(h, w) {
         return Filling::Refused(1);
     }
     let n = h * w;

@@ -1,5 +1,7 @@
 // Dilation of a mask by k rows and k columns: separable, by running counts along each row, then down the columns.
 // The work area holds h + 1 rows of counts down the columns; the counts along one row stand behind them.
+use base::Filling;
+use checks::too_large;
 ghost use mathlib.Core.Path.{_≡_};
 ghost use Prim.Native.Nat.{ℕ, _+_, _-_, _*_, _/_, _%_, _≤_, _<_, min, max};
 ghost use lib.ListN.{length, getD};
@@ -7,7 +9,6 @@ ghost use Rattle.base.specs.Places.{count};
 ghost use Rattle.base.specs.Outputs.{filled};
 ghost use Rattle.rules.specs.Masks.{reachOf, dilatedAt, dilationAnswer, dilationOut};
 ghost use Rattle.mask.specs.Lines.{bitOf, less, setFrom, padded, nextCount, grows, Written, Counted};
-use base::Filling;
 
 // 1 for a number that is not 0.
 pub fn bit(v: u32) -> u32
@@ -176,10 +177,7 @@ pub fn binary_dilation8(
     ensures { λ r. ⌜ r ≡ dilationAnswer (now (mask .entry)) h w iterations (now (out .entry)) (length (now (work .entry))) ⌝ }
     ensures { λ r. ⌜ now (out .exit) ≡ dilationOut (now (mask .entry)) h w iterations (now (out .entry)) (length (now (work .entry))) ⌝ }
 {
-    if 512 < h {
-        return Filling::Refused(1);
-    }
-    if 512 < w {
+    if too_large(h, w) {
         return Filling::Refused(1);
     }
     let n = h * w;

@@ -5,8 +5,8 @@ use mathlib.Core.Bool.{Bool, true, false, not, _&&_, _||_}
 use mathlib.Core.List.{List, [], _∷_}
 use mathlib.Core.Option.{none, some}
 use native.Mathlib.Omega.{arith}
-use borrow.Author.Tests.{lt-ltb, le-ltb, ltb-false}
-use lib.Dec.{ltb, eqb}
+use borrow.Author.Tests.{lt-ltb, le-ltb}
+use lib.Dec.{ltb}
 use lib.Ieee.{Float}
 use lib.IntN.{ℤ, pos, negsuc}
 use lib.Signed.{leZ}
@@ -15,7 +15,7 @@ use lib.ListN.{length, take}
 use Rattle.base.specs.declared.Filling.{Filling}
 use Rattle.base.specs.Places.{any}
 use Rattle.base.specs.Refusals.{Row, refusal, unless, filling}
-use Rattle.base.proofs.Counting.{case, clash, or-left, or-right, neither, eqb-yes, any-same}
+use Rattle.base.proofs.Counting.{any-same}
 use Rattle.base.proofs.Refusing.{refused, passed, done}
 use Rattle.rules.specs.declared.Cleaning.the-variants as answers
 use Rattle.rules.specs.Regions.{at}
@@ -24,6 +24,7 @@ use Rattle.rules.specs.Sheet.{area, sheetOf, over}
 use Rattle.rules.specs.Rows.{tooLarge, tooShort, cramped, badPalette, badColour, badSetting, badIndex}
 use Rattle.rules.specs.Run.{Limits, Tidied, tidy}
 use Rattle.rules.specs.Entries.{orphansRefusal, orphansAnswer, orphansCells}
+use Rattle.checks.proofs.Rows.{not-large, good-palette}
 use Rattle.orphans.specs.Entry.{limitsAt, Fit}
 
 -- a test of the first n cells reads the front of the list alone
@@ -93,18 +94,13 @@ module _ (a : Call) where
   abbrev pub answer : Filling
   answer = filling (orphansRefusal cells h w colours limits (a .passes) (a .work))
 
-  pub tall : 512 < h → Filling.Refused 1 ≡ answer
+  pub first : tooLarge h w .applies ≡ true → Filling.Refused 1 ≡ answer
   unfolding orphansRefusal tooLarge
-  tall l = refused 1 _ from2 (rw (lt-ltb 512 h l))
+  first y = refused 1 _ from2 y
 
-  pub wide : 512 < w → Filling.Refused 1 ≡ answer
+  pub past1 : tooLarge h w .applies ≡ false → {x : Filling} → x ≡ filling (refusal from2) → x ≡ answer
   unfolding orphansRefusal tooLarge
-  wide l = refused 1 _ from2 (or-right (ltb 512 h) (lt-ltb 512 w l))
-
-  -- the sides are right
-  pub past1 : h ≤ 512 → w ≤ 512 → {x : Filling} → x ≡ filling (refusal from2) → x ≡ answer
-  unfolding orphansRefusal tooLarge
-  past1 t u e = passed 1 _ from2 (neither (le-ltb 512 h t) (le-ltb 512 w u)) e
+  past1 z e = passed 1 _ from2 z e
 
   pub short : length cells < h * w → Filling.Refused 2 ≡ filling (refusal from2)
   unfolding tooShort
@@ -154,26 +150,20 @@ module _ (a : Call) where
   unfolding badIndex sheetOf area
   past7 z = passed 7 _ [] z done
 
-  -- ---- a palette that is right
-
-  pub few-entries : badPalette colours .applies ≡ false → (k ≤ 256) × (length (a .palette) ≡ 768)
-  unfolding badPalette
-  few-entries z = (
-    (case (ltb 256 k) (λ y. clash (or-left (not (eqb (length (a .palette)) 768)) y) z) (λ y. ltb-false 256 k y)),
-    (case (eqb (length (a .palette)) 768) (λ y. eqb-yes y) (λ y. clash (or-right (ltb 256 k) (rw y)) z)),
-  )
-
-  pub fits : h ≤ 512 → w ≤ 512 → h * w ≤ length cells → 8 * (h * w) ≤ a .work → badPalette colours .applies ≡ false → unnamed ≡ false → Fit cells h w (a .palette) k (a .region) (a .work)
+  pub fits : tooLarge h w .applies ≡ false → h * w ≤ length cells → 8 * (h * w) ≤ a .work → badPalette colours .applies ≡ false → unnamed ≡ false → Fit cells h w (a .palette) k (a .region) (a .work)
   unfolding badIndex sheetOf area
-  fits t u c d e f = record {
-    rows = omega arith;
-    cols = omega arith;
-    reads = c;
-    planes = d;
-    entries = few-entries e .0;
-    doubles = few-entries e .1;
-    known = f;
-  }
+  fits b c d e f =
+      let sides = not-large h w b in
+      let few = good-palette colours e in
+      record {
+        rows = omega (arith, sides .0);
+        cols = omega (arith, sides .1);
+        reads = c;
+        planes = d;
+        entries = few .0;
+        doubles = few .1;
+        known = f;
+      }
 
   -- ---- the answer
 

@@ -3,6 +3,7 @@ use base::Filling;
 use checks::bad_colour;
 use checks::bad_palette;
 use checks::limit_in_range;
+use checks::too_large;
 ghost use mathlib.Core.Path.{_≡_};
 ghost use mathlib.Core.Bool.{not, _&&_, _||_};
 ghost use Prim.Native.Nat.{_≤_};
@@ -53,10 +54,7 @@ pub fn refused(
     ensures { λ r. ⌜ r ≡ filling (orphansRefusal (now (cells .entry)) h w (paletteOf (now (palette .entry)) k) (limitsAt «min_region» «max_delta») «max_passes» work) ⌝ }
     ensures { λ r. ⌜ (r ≡ Filling.Done → Fit (now (cells .entry)) h w (now (palette .entry)) k «min_region» work) ⌝ }
 {
-    if 512 < h {
-        return Filling::Refused(1);
-    }
-    if 512 < w {
+    if too_large(h, w) {
         return Filling::Refused(1);
     }
     let n = h * w;

@@ -5,6 +5,7 @@ use checks::bad_darkening;
 use checks::bad_index;
 use checks::bad_palette;
 use checks::between;
+use checks::limit_in_range;
 use outline::canvas::touches_edge;
 use outline::rows::no_entry;
 use outline::rows::pads;
@@ -52,7 +53,7 @@ fn bad_config(palette: &[f64], k: usize, config: PostConfig, kept: bool) -> bool
     if !between(0.0, 16.0, config.saturation_beta) {
         return true;
     }
-    if !between(0.0, 1024.0, config.orphan_max_delta) {
+    if !limit_in_range(config.orphan_max_delta) {
         return true;
     }
     let outline = config.outline;

@@ -1,5 +1,6 @@
 // What C gets of an entry's answer: its number, and the facts at the front of a list.
 use base::Filling;
+use checks::too_large;
 use hex::Hex;
 use rules::Cleaning;
 use rules::Facts;
@@ -21,10 +22,7 @@ ghost use Rattle.told.specs.Room.{Small};
 pub fn facts_rows(h: usize, w: usize, have: usize, need: usize) -> Filling
     ensures { λ r. ⌜ r ≡ filling (refusal (tooLarge h w ∷ tooShort have need ∷ [])) ⌝ }
 {
-    if 512 < h {
-        return Filling::Refused(1);
-    }
-    if 512 < w {
+    if too_large(h, w) {
         return Filling::Refused(1);
     }
     if have < need {

@@ -8,10 +8,11 @@ use native.Mathlib.Omega.{arith}
 use borrow.Author.Needs.{needs}
 use lib.ListN.{length, take}
 use Rattle.rules.specs.Masks.{gridRefusal, regionsRefusal, regionsAnswer, regionsLabels}
+use Rattle.checks.proofs.Rows.{refused-by, passed}
 use Rattle.grid.specs.Planes.{Painted}
 use Rattle.grid.proofs.Places.{hood-eight}
 use Rattle.grid.proofs.Tiles.{whole-tile, load-whole, paints-plane}
-use Rattle.grid.proofs.Answers.{filling-done, filling-refused, Sizes, sizes-clear, refused, granted, painted-regions, painted-labels}
+use Rattle.grid.proofs.Answers.{Sizes, sizes-clear, refused, granted, painted-regions, painted-labels}
 use Rattle.grid.proofs.label_regions.Statement.{statement}
 use Rattle.grid.proofs.label_regions.Tie as tie
 
@@ -23,7 +24,7 @@ enum-known-checked c = search needs
 
 returns : tie.Need-returns
 unfolding regionsRefusal regionsAnswer regionsLabels
-returns c = refused _ _ _ _ _ (filling-refused (sym (c .before .before .before .sizes .ensures) ∙ c .before .checked .given .1))
+returns c = refused _ _ _ _ _ (refused-by _ _ (sym (c .before .before .before .sizes .ensures) ∙ c .before .checked .given .1))
 
 enum-told : tie.Need-enum-told
 enum-told c = search needs
@@ -32,7 +33,7 @@ abbrev start : tie.After-enum-told → tie.Start
 start c = c .before .before .before .before .before
 
 clear : (c : tie.After-enum-told) → let a = start c .args in gridRefusal (a .h) (a .w) (length (a .cells .now)) (length (a .labels .now)) (length (a .work .now)) [] ≡ none
-clear c = filling-done (sym (c .before .before .sizes .ensures) ∙ c .enum-told .given .1)
+clear c = passed _ (sym (c .before .before .sizes .ensures) ∙ c .enum-told .given .1)
 
 fit : (c : tie.After-enum-told) → let a = start c .args in Sizes (a .h) (a .w) (length (a .cells .now)) (length (a .labels .now)) (length (a .work .now))
 fit c = sizes-clear (clear c)

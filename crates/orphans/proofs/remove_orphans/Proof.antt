@@ -2,7 +2,7 @@
 use mathlib.Core.Path.{sym, _∙_}
 use lib.ListN.{length}
 use mir.Facts.{toZ-ofZ}
-use Rattle.grid.proofs.Answers.{filling-done, filling-refused}
+use Rattle.checks.proofs.Rows.{refused-by, passed}
 use Rattle.orphans.proofs.Refusing.{Call, answered, answered-refused}
 use borrow.Author.Needs.{needs}
 use Rattle.orphans.proofs.remove_orphans.Statement.{statement}
@@ -35,7 +35,7 @@ returns : tie.Need-returns
 returns c =
     let f = c .before .before .before in
     let s = f .before .before .before .before in
-    answered-refused (call s) _ (filling-refused (sym (rw (toZ-ofZ (s .fits .orphan-min-region)) at (f .refused .ensures .0)) ∙ c .before .checked .given .1))
+    answered-refused (call s) _ (refused-by _ _ (sym (rw (toZ-ofZ (s .fits .orphan-min-region)) at (f .refused .ensures .0)) ∙ c .before .checked .given .1))
 
 enum-told : tie.Need-enum-told
 enum-told c = search needs
@@ -57,7 +57,7 @@ returns-2 c =
     let t = v .before .before .before in
     let f = t .before .before in
     let s = f .before .before .before .before in
-    answered (call s) (filling-done (sym (rw (toZ-ofZ (s .fits .orphan-min-region)) at (f .refused .ensures .0)) ∙ t .enum-told .given .1)) (v .clean-sheet .result) (v .clean-sheet .last .0) (rw (toZ-ofZ (s .fits .orphan-min-region)) at (v .clean-sheet .ensures .0)) (rw (toZ-ofZ (s .fits .orphan-min-region)) at (v .clean-sheet .ensures .1))
+    answered (call s) (passed _ (sym (rw (toZ-ofZ (s .fits .orphan-min-region)) at (f .refused .ensures .0)) ∙ t .enum-told .given .1)) (v .clean-sheet .result) (v .clean-sheet .last .0) (rw (toZ-ofZ (s .fits .orphan-min-region)) at (v .clean-sheet .ensures .0)) (rw (toZ-ofZ (s .fits .orphan-min-region)) at (v .clean-sheet .ensures .1))
 
 pub remove-orphans-spec : {M : Type 1} → statement M
 remove-orphans-spec =

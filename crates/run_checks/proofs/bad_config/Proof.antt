@@ -21,7 +21,7 @@ unfolding between decimal round ofBits
 in-range c =
     let d = c .before .before in
     let b = d .before .before in
-    settled _ _ _ _ _ _ (b .before .between .ensures) (d .before .between2 .ensures) (c .before .bad-darkening .ensures) (b .if1 .left) (d .if2 .left) (c .if3 .left)
+    settled _ _ _ _ _ _ (b .before .between .ensures) (d .before .limit-in-range .ensures) (c .before .bad-darkening .ensures) (b .if1 .left) (d .if2 .left) (c .if3 .left)
 
 between-requires : tie.Need-between-requires
 between-requires c κs = search needs
@@ -30,12 +30,11 @@ returns : tie.Need-returns
 unfolding between decimal round ofBits
 returns c = bad-beta _ _ _ _ (c .before .between .ensures) (c .if1 .taken)
 
-between-requires-2 : tie.Need-between-requires-2
-between-requires-2 c κs = search needs
+limit-in-range-requires : tie.Need-limit-in-range-requires
+limit-in-range-requires c κs = search needs
 
 returns-2 : tie.Need-returns-2
-unfolding between decimal round ofBits
-returns-2 c = bad-delta _ _ _ _ (c .before .between2 .ensures) (c .if2 .taken)
+returns-2 c = bad-delta _ _ _ _ (c .before .limit-in-range .ensures) (c .if2 .taken)
 
 bad-darkening-requires : tie.Need-bad-darkening-requires
 bad-darkening-requires c κs = search needs
@@ -62,7 +61,7 @@ bad-config-spec =
     (tie.spec
     between-requires
     returns
-    between-requires-2
+    limit-in-range-requires
     returns-2
     bad-darkening-requires
     returns-3

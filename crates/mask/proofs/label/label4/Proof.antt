@@ -8,9 +8,10 @@ use native.Mathlib.Omega.{arith}
 use borrow.Author.Needs.{needs}
 use lib.ListN.{length, take}
 use Rattle.rules.specs.Masks.{gridRefusal, maskCells, maskRefusal, maskAnswer, maskLabels}
+use Rattle.checks.proofs.Rows.{refused-by, passed}
 use Rattle.grid.specs.Planes.{Painted}
 use Rattle.grid.proofs.Places.{hood-four}
-use Rattle.grid.proofs.Answers.{filling-done, filling-refused, Sizes, sizes-clear, refused, granted, painted-regions, painted-labels}
+use Rattle.grid.proofs.Answers.{Sizes, sizes-clear, refused, granted, painted-regions, painted-labels}
 use Rattle.mask.proofs.Cells.{mask-painted, bits-small}
 use Rattle.mask.proofs.label.label4.Statement.{statement}
 use Rattle.mask.proofs.label.label4.Tie as tie
@@ -23,7 +24,7 @@ enum-known-checked c = search needs
 
 returns : tie.Need-returns
 unfolding maskRefusal maskAnswer maskLabels
-returns c = refused _ _ _ _ _ (filling-refused (sym (c .before .before .before .sizes .ensures) ∙ c .before .checked .given .1))
+returns c = refused _ _ _ _ _ (refused-by _ _ (sym (c .before .before .before .sizes .ensures) ∙ c .before .checked .given .1))
 
 enum-told : tie.Need-enum-told
 enum-told c = search needs
@@ -32,7 +33,7 @@ abbrev start : tie.After-enum-told → tie.Start
 start c = c .before .before .before .before .before .before
 
 clear : (c : tie.After-enum-told) → let a = start c .args in gridRefusal (a .h) (a .w) (length (a .mask .now)) (length (a .labels .now)) (length (a .work .now)) [] ≡ none
-clear c = filling-done (sym (c .before .before .sizes .ensures) ∙ c .enum-told .given .1)
+clear c = passed _ (sym (c .before .before .sizes .ensures) ∙ c .enum-told .given .1)
 
 fit : (c : tie.After-enum-told) → let a = start c .args in Sizes (a .h) (a .w) (length (a .mask .now)) (length (a .labels .now)) (length (a .work .now))
 fit c = sizes-clear (clear c)
