@@ -14,8 +14,8 @@ use Rattle.rules.specs.declared.Labelling.the-variants as answers
 use Rattle.rules.specs.Rows.{tooLarge, tooShort, cramped}
 use Rattle.rules.specs.Masks.{labelAt, regions, gridRefusal, labelling}
 use Rattle.checks.proofs.Rows.{rows-none, not-large, few-cells}
-use Rattle.grid.specs.Planes.{cellsOf, Painted}
-use Rattle.grid.proofs.Planes.{same-labels, same-regions, painted-alike}
+use Rattle.grid.specs.Planes.{cellsOf}
+use Rattle.grid.proofs.Planes.{Painted, same-labels, same-regions, painted-alike}
 
 -- ---- rows 1 to 3
 

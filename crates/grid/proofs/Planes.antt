@@ -17,7 +17,7 @@ use Rattle.base.specs.Places.{table, least, times, count}
 use Rattle.base.proofs.Counting.{clash, table-at, table-length, same-test, eqb-yes, yes-eqb}
 use Rattle.rules.specs.Regions.{at, opaque, index, alike, link, held, spread, roots, root, inside, first, label}
 use Rattle.rules.specs.Masks.{labelAt, regions}
-use Rattle.grid.specs.Planes.{plane, paintOf, cellOf, Painted, cellsOf, endOf, Labelled}
+use Rattle.grid.specs.Planes.{plane, paintOf, cellOf, cellsOf, endOf, Labelled}
 
 -- ---- stores
 
@@ -140,6 +140,11 @@ module _ (a b : List ℤ) (same : (p : ℕ) → paintOf (at a p) ≡ paintOf (at
   pub same-regions : (n : ℕ) (adj : ℕ → ℕ → Bool) → regions n adj a ≡ regions n adj b
   unfolding regions first inside
   same-regions n adj = ap₂ (λ (o : ℕ → Bool) (r : List ℕ). count n (λ q. o q && eqb (held r q) q)) same-opaque (same-roots n adj)
+
+-- plane 0 holds the sheet
+pub record Painted (cells : List ℤ) (n : ℕ) (work : List ℕ) : Type 0 where
+  pub size : length cells ≡ n
+  pub paint : (p : ℕ) → p < n → plane n 0 work p ≡ paintOf (at cells p)
 
 -- a painted sheet and the sheet of plane 0 are painted alike
 module _ {cells : List ℤ} {n : ℕ} {work : List ℕ} (s : Painted cells n work) where

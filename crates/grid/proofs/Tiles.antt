@@ -18,9 +18,9 @@ use Rattle.base.proofs.Counting.{case, clash, both, left, right, leb-yes, yes-l
 use Rattle.base.proofs.Fills.{filled-more, filled-at, filled-past, filled-is}
 use Rattle.rules.specs.Regions.{at}
 use Rattle.rules.proofs.Reading.{read-at}
-use Rattle.grid.specs.Planes.{plane, paintOf, Painted}
+use Rattle.grid.specs.Planes.{plane, paintOf}
 use Rattle.grid.specs.Tiles.{spotOf, Tile, paintAt, Paints, repaint, inTile, placeIn, storedTo, stored}
-use Rattle.grid.proofs.Planes.{plane-read}
+use Rattle.grid.proofs.Planes.{plane-read, Painted}
 use Rattle.grid.proofs.Places.{row-in, col-in, row-of, col-of, place-in}
 
 -- ---- where places lie

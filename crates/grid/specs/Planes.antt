@@ -6,9 +6,9 @@ use mathlib.Core.Logic.{_↔_}
 use mathlib.Core.Bool.{Bool}
 use mathlib.Core.List.{List}
 use lib.IntN.{ℤ, pos, negsuc}
-use lib.ListN.{length, getD}
+use lib.ListN.{getD}
 use Rattle.base.specs.Places.{table}
-use Rattle.rules.specs.Regions.{at, root}
+use Rattle.rules.specs.Regions.{root}
 use Rattle.rules.specs.Masks as masks
 
 -- what plane j holds at the place p
@@ -26,11 +26,6 @@ paintOf (negsuc i) = 0
 unfoldable pub cellOf : ℕ → ℤ
 cellOf zero = negsuc 0
 cellOf (suc i) = pos i
-
--- plane 0 holds the sheet
-pub record Painted (cells : List ℤ) (n : ℕ) (work : List ℕ) : Type 0 where
-  pub size : length cells ≡ n
-  pub paint : (p : ℕ) → p < n → plane n 0 work p ≡ paintOf (at cells p)
 
 -- the sheet that plane 0 holds
 unfoldable pub cellsOf : ℕ → List ℕ → List ℤ

@@ -14,7 +14,12 @@ use Rattle.rules.specs.Palette.{Palette, firstLeast, firstWhere}
 use Rattle.rules.specs.Outline.{darkest, nearestEntry}
 use Rattle.line.specs.declared.Least.{Least}
 use Rattle.line.specs.declared.Least.the-variants.{Nothing, At}
-use Rattle.line.specs.Line.{lowered, held, placed}
+use Rattle.line.specs.Line.{lowered, placed}
+
+-- a place with its value
+unfoldable pub held : (ℕ → Float) → Option ℕ → Least
+held v none = Nothing
+held v (some b) = At b (v b)
 
 step : (v : ℕ → Float) (i b : ℕ) (l : Bool) → cond l (At i (v i)) (At b (v b)) ≡ held v (some (cond l i b))
 unfolding held

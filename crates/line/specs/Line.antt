@@ -18,11 +18,6 @@ unfoldable pub lowered : Least → ℕ → Float → Least
 lowered Nothing i x = At i x
 lowered (At b y) i x = cond (lt x y) (At i x) (At b y)
 
--- a place with its value
-unfoldable pub held : (ℕ → Float) → Option ℕ → Least
-held v none = Nothing
-held v (some b) = At b (v b)
-
 -- where the least value stands, 0 where there is none
 unfoldable pub placed : Least → ℕ
 placed Nothing = 0

@@ -10,7 +10,8 @@ use lib.Seq.{getD-take, length-take-le}
 use Rattle.base.specs.Outputs.{filled}
 use Rattle.rules.specs.Regions.{at}
 use Rattle.rules.specs.Masks.{isSet, maskCells}
-use Rattle.grid.specs.Planes.{plane, paintOf, Painted}
+use Rattle.grid.specs.Planes.{plane, paintOf}
+use Rattle.grid.proofs.Planes.{Painted}
 use Rattle.grid.proofs.Tiles.{filled-plane}
 use Rattle.mask.specs.Lines.{bitOf}
 use Rattle.mask.proofs.Lines.{bit-small}

@@ -26,9 +26,9 @@ use Rattle.rules.proofs.More.{pass-opaque, clean-opaque}
 use Rattle.rules.proofs.Sheets.{limit-one}
 use Rattle.rules.proofs.Grids.{eight-symmetric}
 use Rattle.grid.specs.Steps.{hood}
-use Rattle.grid.specs.Planes.{plane, paintOf, cellsOf, Painted}
+use Rattle.grid.specs.Planes.{plane, paintOf, cellsOf}
 use Rattle.grid.specs.Tiles.{repaint}
-use Rattle.grid.proofs.Planes.{cells-paint, painted-alike}
+use Rattle.grid.proofs.Planes.{Painted, cells-paint, painted-alike}
 use Rattle.verdicts.specs.Choice.{apart}
 use Rattle.verdicts.specs.Judging.{ruleOf, stateOf, Indexed}
 use Rattle.orphans.specs.Passing.{CleanedTo}

@@ -9,8 +9,8 @@ use borrow.Author.Needs.{needs}
 use lib.ListN.{length, take}
 use Rattle.rules.specs.Masks.{gridRefusal, regionsRefusal, regionsAnswer, regionsLabels}
 use Rattle.checks.proofs.Rows.{refused-by, passed}
-use Rattle.grid.specs.Planes.{Painted}
 use Rattle.grid.proofs.Places.{hood-eight}
+use Rattle.grid.proofs.Planes.{Painted}
 use Rattle.grid.proofs.Tiles.{whole-tile, load-whole, paints-plane}
 use Rattle.grid.proofs.Answers.{Sizes, sizes-clear, refused, granted, painted-regions, painted-labels}
 use Rattle.grid.proofs.label_regions.Statement.{statement}

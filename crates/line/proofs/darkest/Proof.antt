@@ -8,8 +8,8 @@ use lib.Ieee.{Float}
 use Rattle.color.specs.Lab.{entry}
 use Rattle.rules.specs.Palette.{paletteOf, colour, firstLeast}
 use Rattle.rules.specs.Outline.{darkest}
-use Rattle.line.specs.Line.{held, placed}
-use Rattle.line.proofs.Scans.{least-none, least-more, placed-held}
+use Rattle.line.specs.Line.{placed}
+use Rattle.line.proofs.Scans.{held, least-none, least-more, placed-held}
 use Rattle.line.proofs.darkest.Statement.{statement}
 use Rattle.line.proofs.darkest.Tie as tie
 

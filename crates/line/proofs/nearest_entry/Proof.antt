@@ -9,8 +9,8 @@ use Rattle.color.specs.declared.Lab.{Lab}
 use Rattle.color.specs.Lab.{distance}
 use Rattle.rules.specs.Palette.{paletteOf, colour, firstLeast}
 use Rattle.rules.specs.Outline.{nearestEntry}
-use Rattle.line.specs.Line.{lowered, held, placed}
-use Rattle.line.proofs.Scans.{least-none, least-more, placed-held}
+use Rattle.line.specs.Line.{lowered, placed}
+use Rattle.line.proofs.Scans.{held, least-none, least-more, placed-held}
 use Rattle.line.proofs.nearest_entry.Statement.{statement}
 use Rattle.line.proofs.nearest_entry.Tie as tie
 

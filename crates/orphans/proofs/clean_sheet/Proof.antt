@@ -11,7 +11,7 @@ use lib.ListN.{take}
 use mir.Syntax.{w32}
 use mir.Val.{Fits, toZ, ofZ}
 use mir.Facts.{toZ-ofZ}
-use Rattle.grid.specs.Planes.{Painted}
+use Rattle.grid.proofs.Planes.{Painted}
 use Rattle.grid.proofs.Tiles.{whole-tile, load-whole, store-whole}
 use Rattle.orphans.proofs.Storing.{not-negative, loaded-known, none-cleaned, all-cleaned}
 use borrow.Author.Needs.{needs}

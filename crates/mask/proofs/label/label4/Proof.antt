@@ -9,8 +9,8 @@ use borrow.Author.Needs.{needs}
 use lib.ListN.{length, take}
 use Rattle.rules.specs.Masks.{gridRefusal, maskCells, maskRefusal, maskAnswer, maskLabels}
 use Rattle.checks.proofs.Rows.{refused-by, passed}
-use Rattle.grid.specs.Planes.{Painted}
 use Rattle.grid.proofs.Places.{hood-four}
+use Rattle.grid.proofs.Planes.{Painted}
 use Rattle.grid.proofs.Answers.{Sizes, sizes-clear, refused, granted, painted-regions, painted-labels}
 use Rattle.mask.proofs.Cells.{mask-painted, bits-small}
 use Rattle.mask.proofs.label.label4.Statement.{statement}

@@ -1,14 +1,13 @@
 -- `outline::rows::sheet_refusal` meets its contract. Row after row. Assumes nothing.
 use Prim.Native.Nat.{_≤_}
-use mathlib.Core.Path.{_≡_, refl, sym, ap, _∙_}
+use mathlib.Core.Path.{_≡_, sym, ap, _∙_}
 use mathlib.Core.Bool.{Bool, false, _&&_}
 use native.Mathlib.Omega.{arith}
 use borrow.Author.Needs.{needs}
 use Rattle.rules.specs.Sheet.{sheetOf, needed}
 use Rattle.rules.specs.Outline.{asked, pads}
 use Rattle.rules.specs.Rows.{tooLarge}
-use Rattle.grid.proofs.Places.{area as area-fits}
-use Rattle.checks.proofs.Rows.{not-large}
+use Rattle.checks.proofs.Rows.{not-large, few-cells}
 use Rattle.outline.proofs.Refusing.{needed-least, row-1, row-2, row-3, past-3}
 use Rattle.outline.proofs.rows.sheet_refusal.Statement.{statement}
 use Rattle.outline.proofs.rows.sheet_refusal.Tie as tie
@@ -36,7 +35,7 @@ returns : tie.Need-returns
 returns c = row-1 _ _ _ _ _ (sym (c .before .too-large .ensures) ∙ c .if1 .taken)
 
 mul-if2 : tie.Need-mul-if2
-mul-if2 c = let k = sides c in record { fits = omega (arith, area-fits (c .before .before .args .h) (c .before .before .args .w) (omega arith) (omega arith)) }
+mul-if2 c = omega (arith, few-cells _ _ (not-1 c))
 
 returns-2 : tie.Need-returns-2
 returns-2 c =
