@@ -11,15 +11,15 @@ use lib.Ieee.{Float, nan, inf, fin, binary64, unlike, round, odd, units, add, su
 use lib.Ieee.Fits.{add-fits, down-pos, round-is}
 use lib.Ieee.Exact.{HasValue, units-val, odd-sign, round-exact}
 use lib.Ieee.Order.{round-mono, kept, drop}
-use lib.Ieee.Positive.{num, den, above-of-le, positive-of-value, values-of-le}
+use lib.Ieee.Positive.{above-of-le, positive-of-value, values-of-le}
 use lib.Ieee.Scale.{grid, overflow, finite, round-val, round-under}
 use Rattle.base.proofs.Counting.{left, right, either, to-T, eqb-yes}
-use Rattle.roots.specs.Root.{notNegative, Double, NearestRoot}
+use Rattle.roots.specs.Root.{notNegative, Double}
 use Rattle.roots.proofs.Exists.{sqrt-nearest}
 use Rattle.channel.proofs.Patterns.{finite-above}
 use Rattle.color.specs.declared.Lab.{Lab}
 use Rattle.base.specs.Doubles.{_⊕_, _⊖_, _⊗_, decimal}
-use Rattle.color.specs.Lab.{within, dist2, distance}
+use Rattle.color.specs.Lab.{within, InRange, dist2, distance, DistanceNearest}
 
 -- x is finite, with the sign s, and its size is at most n
 abbrev pub Size : ℕ → Bool → Float → Type 0
@@ -171,12 +171,6 @@ in-range (fin false m e) h =
 
 -- ---- the distance
 
--- all parts are in range
-pub record InRange (c : Lab) : Type 0 where
-  pub light : within (c .l) ≡ true
-  pub first : within (c .a) ≡ true
-  pub second : within (c .b) ≡ true
-
 part : (x y : Float) → within x ≡ true → within y ≡ true → Size 4194304 false ((x ⊖ y) ⊗ (x ⊖ y))
 unfolding sub
 part x y h g = square 2048 (x ⊖ y) (omega arith) (add-sized 1024 1024 x (neg y) (omega arith) (in-range x h) (turned 1024 y (in-range y g)))
@@ -202,6 +196,6 @@ dist2-double p q h g =
     }
 
 -- the distance is the double nearest to the root
-pub distance-nearest : (p q : Lab) → InRange p → InRange q → NearestRoot 2 (num (dist2 p q)) (den (dist2 p q)) (distance p q)
-unfolding distance
+pub distance-nearest : DistanceNearest
+unfolding DistanceNearest distance
 distance-nearest p q h g = sqrt-nearest (dist2 p q) (dist2-double p q h g)

@@ -1,10 +1,13 @@
 -- Colours: what a list of them holds, the distance of two, and the ways between CIELAB and sRGB. Every operation is rounded once, in the order written.
 -- Definitions only. Assumes nothing.
 use Prim.Native.Nat.{ℕ, _+_, _*_}
-use mathlib.Core.Bool.{Bool, _&&_, cond}
+use mathlib.Core.Path.{_≡_}
+use mathlib.Core.Bool.{Bool, true, _&&_, cond}
 use mathlib.Core.List.{List, [], _∷_}
 use lib.ListN.{getD}
 use lib.Ieee.{Float, nan, neg, lt, le}
+use lib.Ieee.Positive.{num, den}
+use Rattle.roots.specs.Root.{NearestRoot}
 use Rattle.roots.specs.Computed.{sqrtOf, cbrtOf}
 use Rattle.color.specs.declared.Lab.{Lab}
 use Rattle.color.specs.declared.Rgb8.{Rgb8}
@@ -19,6 +22,12 @@ entry list i = record { l = getD list (3 * i) nan; a = getD list (3 * i + 1) nan
 unfoldable pub within : Float → Bool
 within x = le (neg (decimal 1024 0)) x && le x (decimal 1024 0)
 
+-- all parts of a colour are in range
+pub record InRange (c : Lab) : Type 0 where
+  pub light : within (c .l) ≡ true
+  pub first : within (c .a) ≡ true
+  pub second : within (c .b) ≡ true
+
 -- ---- distance
 
 -- three squares, summed left to right
@@ -32,6 +41,10 @@ dist2 p q =
 -- the root of that
 unfoldable pub distance : Lab → Lab → Float
 distance p q = sqrtOf (dist2 p q)
+
+-- for all colours in range that is the double nearest to the root of the sum
+unfoldable pub DistanceNearest : Type 0
+DistanceNearest = (p q : Lab) → InRange p → InRange q → NearestRoot 2 (num (dist2 p q)) (den (dist2 p q)) (distance p q)
 
 -- ---- constants
 
