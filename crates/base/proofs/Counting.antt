@@ -43,9 +43,6 @@ pub or-right : (a : Bool) {b : Bool} → b ≡ true → (a || b) ≡ true
 or-right true y = refl
 or-right false y = y
 
-pub neither : {a b : Bool} → a ≡ false → b ≡ false → (a || b) ≡ false
-neither y z = rw y z
-
 pub not-true : {b : Bool} → not b ≡ true → b ≡ false
 not-true {b = true} e = absurd (false≢true e)
 not-true {b = false} e = refl

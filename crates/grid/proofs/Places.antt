@@ -204,23 +204,14 @@ straight =
     (λ l. inr refl) (λ l. inl refl) (λ l. inl refl) (λ l. inr refl)
     (λ l. absurd (omega arith)) (λ l. absurd (omega arith)) (λ l. absurd (omega arith)) (λ l. absurd (omega arith))
 
--- and none goes further than two rows or columns
+-- a step of at most two rows and columns
 pub record Near (dy dx : ℤ) : Type 0 where
   pub up : leZ (negsuc 1) dy ≡ true
   pub down : leZ dy (pos 2) ≡ true
   pub left : leZ (negsuc 1) dx ≡ true
   pub right : leZ dx (pos 2) ≡ true
 
-abbrev near : {dy dx : ℤ} → leZ (negsuc 1) dy ≡ true → leZ dy (pos 2) ≡ true → leZ (negsuc 1) dx ≡ true → leZ dx (pos 2) ≡ true → Near dy dx
-near a b c d = record { up = a; down = b; left = c; right = d }
-
-pub offset-near : (k : ℕ) → k < 8 → Near (rowsOf k) (colsOf k)
-offset-near =
-    each-step (λ (k : ℕ). Near (rowsOf k) (colsOf k))
-    (near refl refl refl refl) (near refl refl refl refl) (near refl refl refl refl) (near refl refl refl refl)
-    (near refl refl refl refl) (near refl refl refl refl) (near refl refl refl refl) (near refl refl refl refl)
-
--- in truth none goes further than one
+-- no step goes further than one row or column
 pub offset-single : (k : ℕ) → k < 8 → Single (rowsOf k) × Single (colsOf k)
 offset-single =
     each-step (λ (k : ℕ). Single (rowsOf k) × Single (colsOf k))

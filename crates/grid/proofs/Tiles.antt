@@ -1,6 +1,6 @@
 -- Tiles: where their places lie in a sheet, and how a loop loads or stores them place by place. Assumes nothing.
-use Prim.Native.Nat.{ℕ, zero, suc, _+_, _-_, _*_, _/_, _%_, _≤_, _<_}
-use mathlib.Core.Path.{_≡_, refl, sym, ap, ap₂, fun-ext, _∙_, subst}
+use Prim.Native.Nat.{ℕ, _+_, _-_, _*_, _/_, _%_, _≤_, _<_}
+use mathlib.Core.Path.{_≡_, sym, ap, ap₂, fun-ext, _∙_, subst}
 use mathlib.Core.Bool.{true, _&&_, cond}
 use mathlib.Core.List.{List}
 use native.Mathlib.Nat.{not-suc-le-zero, mul-le-mul, div-add-mod', suc-mul}
@@ -15,7 +15,7 @@ use lib.Seq.{getD-set-same, getD-set-other, ext-getD, getD-take, length-take-le}
 use Rattle.base.specs.Places.{table}
 use Rattle.base.specs.Outputs.{filled}
 use Rattle.base.proofs.Counting.{case, clash, both, left, right, leb-yes, yes-leb, table-at, table-length}
-use Rattle.base.proofs.Fills.{filled-more, filled-at, filled-past, filled-is}
+use Rattle.base.proofs.Fills.{filled-more, filled-at, filled-is}
 use Rattle.rules.specs.Regions.{at}
 use Rattle.rules.proofs.Reading.{read-at}
 use Rattle.grid.specs.Planes.{plane, paintOf}
@@ -275,15 +275,10 @@ whole-tile cells work h w a b c d = record {
   inside = λ p l. omega (arith, spot-whole w p);
 }
 
--- the planes after the first n numbers were filled
+-- plane 0 after the first n numbers were filled
 pub filled-plane : (n : ℕ) (f : ℕ → ℕ) (l : List ℕ) (p : ℕ) → p < n → plane n 0 (filled n f l) p ≡ f p
 unfolding plane
 filled-plane n f l p h = ap (λ (i : ℕ). getD (filled n f l) i 0) (omega arith) ∙ filled-at n f l 0 p h
-
-pub filled-others : (n : ℕ) (f : ℕ → ℕ) (l : List ℕ) (j p : ℕ) → (j ≡ 0 → ⊥) → plane n j (filled n f l) p ≡ plane n j l p
-unfolding plane
-filled-others n f l zero p ne = absurd (ne refl)
-filled-others n f l (suc j) p ne = filled-past n f l 0 (suc j * n + p) (omega (arith, suc-mul j n))
 
 -- a loaded sheet is painted
 pub load-whole : (cells : List ℤ) (work : List ℕ) (h w : ℕ) → h * w ≤ length cells → Painted (take (h * w) cells) (h * w) (filled (h * w) (paintAt cells 0 w w) work)
