@@ -5,8 +5,9 @@
 # make compare      the library beside the Rust original in SHARED, CASES random calls of each entry and more
 # make bench        times of both
 # make model        the Python model against the stored answers, the texts of silk and wrong rules
+# make documents    whether what docs/PROMISES.md names is there
 # make definitions  the definitions of rules against the model on ROWS random calls, computed by the checker
-.PHONY: test run lib example compare bench compared model definitions
+.PHONY: test run lib example compare bench compared model documents definitions
 CFLAGS = -std=c11 -Wall -Wextra -Wpedantic -Werror
 SHARED = ../shared
 CASES = 20000
@@ -44,6 +45,9 @@ model:
 	@python3 tools/check_vectors.py
 	@python3 tools/check_silk.py
 	@python3 tools/mutants.py
+
+documents:
+	@python3 tools/check_documents.py
 
 definitions:
 	@sh tools/definitions.sh $(ROWS) $(SEED)
