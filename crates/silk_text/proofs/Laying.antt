@@ -1,11 +1,12 @@
 -- Lists that are laid over others, from a place on. Assumes nothing.
-use Prim.Native.Nat.{ℕ, _+_, _≤_, _<_}
+use Prim.Native.Nat.{ℕ, _+_, _≤_, _<_, zero-le}
 use mathlib.Core.Path.{_≡_, refl, sym, ap, _∙_}
 use mathlib.Core.List.{List, [], _∷_, _++_, append-assoc, append-nil}
 use native.Mathlib.Nat.{add-zero, add-assoc}
+use native.Mathlib.Numerals.{add-one}
 use native.Mathlib.Omega.{arith}
-use lib.ListN.{length, take, drop, set, length-append, length-drop, take-append-drop}
-use lib.Seq.{take-at, drop-append-add, drop-drop, length-take-le, sets, sets-eq}
+use lib.ListN.{length, getD, take, drop, set, length-append, length-drop, length-set, take-append-drop}
+use lib.Seq.{take-at, take-suc, drop-append-add, drop-drop, length-take-le, sets, sets-eq}
 use Rattle.cursor.specs.Reader.{Got, got, refused, Reader, chain, _>>=_, give}
 use Rattle.silk_text.specs.Answers.{laid, onto}
 use Rattle.cursor.proofs.Chaining.{chain-first}
@@ -46,6 +47,40 @@ module _ {A : Type 0} where
 
   pub laid-one : (at : ℕ) (x : A) (old : List A) → at < length old → set old at x ≡ laid at (x ∷ []) old
   laid-one at x old h = laid-sets at (x ∷ []) old (omega arith)
+
+-- ---- a copy
+
+-- the first i of n elements of a list are laid over another, which is `now`
+pub record Copied {A : Type 0} (from : List A) (n at : ℕ) (old : List A) (i : ℕ) (now : List A) : Type 0 where
+  pub inside : i ≤ n
+  pub list : now ≡ laid at (take i from) old
+  pub kept : length now ≡ length old
+
+pub copied-none : {A : Type 0} (from : List A) (n at : ℕ) (old : List A) → Copied from n at old 0 old
+copied-none from n at old = record { inside = zero-le; list = laid-none at old; kept = refl }
+
+module _ {A : Type 0} {from : List A} {n at : ℕ} {old : List A} {i : ℕ} {now : List A} (g : Copied from n at old i now) where
+  pub copied-more : (d : A) → i < n → n ≤ length from → at + n ≤ length old → {place : ℕ} {x : A} → place ≡ at + i → x ≡ getD from i d → Copied from n at old (i + 1) (set now place x)
+  copied-more d h l r {place} {x} p y =
+      let e : place ≡ at + length (take i from) = omega (arith, length-take-le i from (omega arith)) in
+      let next : take i from ++ x ∷ [] ≡ take (i + 1) from = ap (λ (z : A). take i from ++ z ∷ []) y ∙ sym (take-suc from i d (omega arith)) ∙ ap (λ (k : ℕ). take k from) (sym (add-one i)) in
+      record {
+        inside = omega arith;
+        list =
+            laid-one place x now (omega (arith, g .kept))
+            ∙ ap (λ (b : List A). laid place (x ∷ []) b) (g .list)
+            ∙ ap (λ (k : ℕ). laid k (x ∷ []) (laid at (take i from) old)) e
+            ∙ laid-more at (take i from) (x ∷ []) old (omega arith)
+            ∙ ap (λ (b : List A). laid at b old) next;
+        kept = length-set now place x ∙ g .kept;
+      }
+
+  pub copied-all : n ≤ i → now ≡ laid at (take n from) old
+  copied-all h =
+      let e : i ≡ n = omega (arith, g .inside) in
+      g .list ∙ ap (λ (k : ℕ). laid at (take k from) old) e
+
+-- ---- what a reading lays over a list
 
 -- what a reading onto a list says of the reading
 pub record Read {A : Type 0} (g : Got (List A)) (at : ℕ) (old new : List A) (rest : List ℕ) : Type 0 where

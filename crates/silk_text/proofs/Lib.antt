@@ -1,3 +1,4 @@
 pub mod Laying
 pub mod Repeating
 pub mod Whole
+pub mod Keeping

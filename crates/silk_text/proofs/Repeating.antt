@@ -99,3 +99,15 @@ series-length p (suc n) i text {xs} {end} e =
     let t : got (a .value ∷ b .value) (b .rest) ≡ got xs end = b .then in
     let q : xs ≡ a .value ∷ b .value = cc in
     ap length q ∙ ap suc (series-length p n (suc i) (a .rest) (b .read))
+
+-- what a series comes to is so many elements long, if each of its values is m of them
+pub series-size : {A B : Type 0} (p : ℕ → Reader A) (put : A → List B) (m : ℕ) → ((i : ℕ) (text : List ℕ) (x : A) (end : List ℕ) → p i text ≡ got x end → length (put x) ≡ m) →
+    (n i : ℕ) (text : List ℕ) {xs : List A} {end : List ℕ} → series i n p text ≡ got xs end → length (flatMap put xs) ≡ n * m
+unfolding series flatMap
+series-size p put m each zero i text {xs} {end} e = let q : xs ≡ [] = cc in rw q (sym (zero-mul m))
+series-size p put m each (suc n) i text {xs} {end} e =
+    let a = chain-first (p i text) (λ x rest. chain (series (suc i) n p rest) (λ ys last. got (x ∷ ys) last)) e in
+    let b = chain-first (series (suc i) n p (a .rest)) (λ ys last. got (a .value ∷ ys) last) (a .then) in
+    let t : got (a .value ∷ b .value) (b .rest) ≡ got xs end = b .then in
+    let q : xs ≡ a .value ∷ b .value = cc in
+    rw q (length-append (put (a .value)) (flatMap put (b .value)) ∙ omega (arith, suc-mul n m, each i text (a .value) (a .rest) (a .read), series-size p put m each n (suc i) (a .rest) (b .read)))

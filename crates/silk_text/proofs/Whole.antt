@@ -11,13 +11,13 @@ use lib.Dec.{ltb}
 use lib.IntN.{ℤ}
 use lib.Ieee.{Float}
 use lib.ListN.{length, take, drop, length-append, length-take, length-drop}
-use borrow.Author.Tests.{ltb-false, le-leb, lt-leb}
+use borrow.Author.Tests.{ltb-false}
 use Rattle.base.specs.Refusals.{refusal, unless}
 use Rattle.base.proofs.Counting.{case}
 use Rattle.cursor.specs.Reader.{Got, got, refused, chain, _>>=_, _>>_, give, bytes, newline, codes, series, cellAt, line}
 use Rattle.cursor.specs.Lines.{sizes, passes, outlineLine, options, headOf, judged, headEnd, head}
 use Rattle.silk_text.specs.Format.{colours, rowLine, rows, File, lists, file, ended, most, parse}
-use Rattle.silk_text.specs.Answers.{laid, lent, readInto}
+use Rattle.silk_text.specs.Answers.{laid, lent}
 use Rattle.cursor.specs.declared.head.Head.{Head}
 use Rattle.cursor.proofs.Chaining.{chain-first}
 use Rattle.silk_text.proofs.Repeating.{series-length}
@@ -157,33 +157,18 @@ module _ (text : List ℕ) where
     unfolding parse chain
     parse-yes a b = rw e (ended-none f (drop at (take most text) ++ drop most text) (simp (length-append, length-drop) (omega (arith, length-take most text))))
 
--- ---- reading into lent lists
-
-pub into-narrow : (text : List ℕ) (palette : List Float) (cells : List ℤ) → length palette < 768 → readInto text palette cells ≡ refused 2
-unfolding readInto
-into-narrow text palette cells h = rw (lt-leb 768 (length palette) h)
-
-pub into-short : (text : List ℕ) (palette : List Float) (cells : List ℤ) → 768 ≤ length palette → length cells < 1600 → readInto text palette cells ≡ refused 2
-unfolding readInto
-into-short text palette cells a h = rw (le-leb 768 (length palette) a, lt-leb 1600 (length cells) h)
-
-module _ (text part : List ℕ) (palette : List Float) (cells : List ℤ) (a : 768 ≤ length palette) (b : 1600 ≤ length cells) (is : part ≡ take most text) where
-  into : readInto text palette cells ≡ lent palette cells (parse text)
-  unfolding readInto
-  into = rw (le-leb 768 (length palette) a, le-leb 1600 (length cells) b)
-
-  pub into-no : {n : ℕ} → lent palette cells (file part) ≡ refused n → readInto text palette cells ≡ refused n
-  into-no e = into ∙ lent-no palette cells (parse-no text (rw is at (lent-none palette cells (file part) e)))
+module _ (text part : List ℕ) (palette : List Float) (cells : List ℤ) (is : part ≡ take most text) where
+  pub text-no : {n : ℕ} → lent palette cells (file part) ≡ refused n → lent palette cells (parse text) ≡ refused n
+  text-no e = lent-no palette cells (parse-no text (rw is at (lent-none palette cells (file part) e)))
 
   module _ {s : File} (at : ℕ) (e : lent palette cells (file part) ≡ got s (drop at part)) where
     read-is : Lent palette cells (file (take most text)) s (drop at (take most text))
     read-is = rw is at (lent-got palette cells (file part) e)
 
-    pub into-over : (at < length part) ⊎ (length part < length text) → readInto text palette cells ≡ refused 10
-    into-over h = into ∙ lent-no palette cells (parse-over text (read-is .read) (rw is at h))
+    pub text-over : (at < length part) ⊎ (length part < length text) → lent palette cells (parse text) ≡ refused 10
+    text-over h = lent-no palette cells (parse-over text (read-is .read) (rw is at h))
 
-    pub into-yes : length part ≤ at → length text ≤ length part → readInto text palette cells ≡ got s []
-    into-yes p q =
-        into
-        ∙ lent-yes palette cells (parse-yes text {f = read-is .file} {at = at} (read-is .read) (rw is at p) (rw is at q)) refl refl
+    pub text-yes : length part ≤ at → length text ≤ length part → lent palette cells (parse text) ≡ got s []
+    text-yes p q =
+        lent-yes palette cells (parse-yes text {f = read-is .file} {at = at} (read-is .read) (rw is at p) (rw is at q)) refl refl
         ∙ ap (λ (x : File). got x []) (read-is .same)

@@ -1,5 +1,5 @@
 -- Lists that are filled by reading, and what the answers leave in them. Definitions only. Assumes nothing.
-use Prim.Native.Nat.{ℕ, _+_}
+use Prim.Native.Nat.{ℕ, _+_, _*_}
 use mathlib.Core.Bool.{_&&_, cond}
 use lib.Dec.{leb}
 use mathlib.Core.List.{List, [], _++_}
@@ -44,11 +44,33 @@ unfoldable pub filed : List ℕ → List Float → List ℤ → HeadRead → Got
 filed text palette cells (HeadRead.the-variants.Value h c) = got (record { head = h; palette = palette; cells = cells }) (drop (c .at) text)
 filed text palette cells (HeadRead.the-variants.Refused n) = refused n
 
--- the same where nothing follows
+-- the same where nothing follows; after a refusal they are free
 unfoldable pub parsed : List Float → List ℤ → Parsed → Got File
 parsed palette cells (Parsed.the-variants.Sheet h) = got (record { head = h; palette = palette; cells = cells }) []
 parsed palette cells (Parsed.the-variants.Refused n) = refused n
 
+-- how many doubles, and how many cells, an answer says were read
+unfoldable pub doublesOf : Parsed → ℕ
+doublesOf (Parsed.the-variants.Sheet h) = 3 * h .colours
+doublesOf (Parsed.the-variants.Refused n) = 0
+
+unfoldable pub cellsOf : Parsed → ℕ
+cellsOf (Parsed.the-variants.Sheet h) = h .height * h .width
+cellsOf (Parsed.the-variants.Refused n) = 0
+
 -- reading into lent lists; those that do not hold 256 colours and 40 by 40 cells are refused by 2
 unfoldable pub readInto : List ℕ → List Float → List ℤ → Got File
 readInto text palette cells = cond (leb 768 (length palette) && leb 1600 (length cells)) (lent palette cells (parse text)) (refused 2)
+
+-- the answer, and what the lent palette and the lent cells hold then; a refusal leaves them as they were
+unfoldable pub readAnswer : Got File → Parsed
+readAnswer (got f rest) = Parsed.the-variants.Sheet (f .head)
+readAnswer (refused n) = Parsed.the-variants.Refused n
+
+unfoldable pub readPalette : Got File → List Float → List Float
+readPalette (got f rest) palette = f .palette
+readPalette (refused n) palette = palette
+
+unfoldable pub readCells : Got File → List ℤ → List ℤ
+readCells (got f rest) cells = f .cells
+readCells (refused n) cells = cells

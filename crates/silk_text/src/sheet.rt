@@ -3,10 +3,12 @@ ghost use mathlib.Core.Path.{_≡_};
 ghost use Prim.Native.Nat.{_+_, _*_, _≤_, _<_};
 ghost use lib.ListN.{length, take, drop};
 ghost use Rattle.cursor.specs.Reader.{series, cellAt};
-ghost use Rattle.silk_text.specs.Format.{doubles, rowLine, rows, lists, file, most};
-ghost use Rattle.silk_text.specs.Answers.{laid, onto, filledTo, steppedTo, lent, filed, parsed, readInto};
+ghost use Rattle.silk_text.specs.Format.{doubles, rowLine, rows, lists, file, most, parse};
+ghost use Rattle.silk_text.specs.Answers.{laid, onto, filledTo, steppedTo, lent, filed, parsed, doublesOf, cellsOf, readInto, readAnswer, readPalette, readCells};
+ghost use Rattle.channel.specs.Channel.{DecodeTable};
+use channel::decode_table;
 use color::Rgb8;
-use color::cielab::rgb8_to_lab_one;
+use color::cielab::rgb8_to_lab_by;
 use cursor::Cell;
 use cursor::Colour;
 use cursor::Cursor;
@@ -26,12 +28,13 @@ pub enum Parsed {
     Refused(u8),
 }
 
-// Puts a colour at entry i of a palette.
-fn put_colour(palette: &mut [f64], i: usize, c: Rgb8)
+// Puts a colour at entry i of a palette, by a table that was made before.
+fn put_colour(table: &[u64], palette: &mut [f64], i: usize, c: Rgb8)
+    requires { ⌜ DecodeTable (now table) ⌝ }
     requires { ⌜ 3 * i + 3 ≤ length (now palette) ⌝ }
     ensures { λ _. ⌜ now (palette .exit) ≡ laid (3 * i) (doubles c) (now (palette .entry)) ⌝ }
 {
-    let lab = rgb8_to_lab_one(c);
+    let lab = rgb8_to_lab_by(table, c);
     let at = 3 * i;
     palette[at] = lab.l;
     palette[at + 1] = lab.a;
@@ -43,12 +46,13 @@ fn read_colours(text: &[u8], from: Cursor, colours: usize, palette: &mut [f64]) 
     requires { ⌜ 3 * colours ≤ length (now palette) ⌝ }
     ensures { λ r. ⌜ filledTo (now (text .entry)) (now (palette .exit)) r ≡ onto 0 (now (palette .entry)) (Rattle.silk_text.specs.Format.colours colours) (drop (from .at) (now (text .entry))) ⌝ }
 {
+    let table = decode_table();
     let mut to = from;
     let mut i = 0;
     while i < colours {
         match to.colour_line(text) {
             Colour::Value(c, next) => {
-                put_colour(palette, i, c);
+                put_colour(&table, palette, i, c);
                 to = next;
             }
             Colour::Refused(n) => return Reading::Refused(n),
@@ -156,17 +160,11 @@ fn limited(text: &[u8]) -> &[u8]
     }
 }
 
-// Reads a text: its head is the answer, its colours, as doubles, go to the front of the palette, its cells to the front of the cells.
-// Lent lists that do not hold 256 colours and 40 by 40 cells are refused by 2. What they hold after a refusal is free.
-pub fn read(text: &[u8], palette: &mut [f64], cells: &mut [i32]) -> Parsed
-    ensures { λ r. ⌜ parsed (now (palette .exit)) (now (cells .exit)) r ≡ readInto (now (text .entry)) (now (palette .entry)) (now (cells .entry)) ⌝ }
+// The whole text: nothing may follow the last row.
+fn read_text(text: &[u8], palette: &mut [f64], cells: &mut [i32]) -> Parsed
+    requires { ⌜ (768 ≤ length (now palette)) × (1600 ≤ length (now cells)) ⌝ }
+    ensures { λ r. ⌜ parsed (now (palette .exit)) (now (cells .exit)) r ≡ lent (now (palette .entry)) (now (cells .entry)) (parse (now (text .entry))) ⌝ }
 {
-    if palette.len() < 768 {
-        return Parsed::Refused(2);
-    }
-    if cells.len() < 1600 {
-        return Parsed::Refused(2);
-    }
     let part = limited(text);
     match read_file(part, palette, cells) {
         HeadRead::Value(h, end) => {
@@ -180,4 +178,75 @@ pub fn read(text: &[u8], palette: &mut [f64], cells: &mut [i32]) -> Parsed
         }
         HeadRead::Refused(n) => Parsed::Refused(n),
     }
+}
+
+// How many doubles and how many cells were read.
+struct Counts {
+    doubles: usize,
+    cells: usize,
+}
+
+// The counts that an answer tells: none after a refusal.
+fn counts_of(answer: Parsed) -> Counts
+    requires { ⌜ (doublesOf answer ≤ 768) × (cellsOf answer ≤ 1600) ⌝ }
+    ensures { λ r. ⌜ (r .doubles ≡ doublesOf answer) × (r .cells ≡ cellsOf answer) ⌝ }
+{
+    match answer {
+        Parsed::Sheet(h) => {
+            let doubles = 3 * h.colours;
+            let cells = h.height * h.width;
+            Counts { doubles, cells }
+        }
+        Parsed::Refused(_) => Counts {
+            doubles: 0,
+            cells: 0,
+        },
+    }
+}
+
+// Copies the first n doubles of a list to the front of another.
+fn copy_doubles(from: &[f64], n: usize, to: &mut [f64])
+    requires { ⌜ (n ≤ length (now from)) × (n ≤ length (now to)) ⌝ }
+    ensures { λ _. ⌜ now (to .exit) ≡ laid 0 (take n (now (from .entry))) (now (to .entry)) ⌝ }
+{
+    let mut i = 0;
+    while i < n {
+        to[i] = from[i];
+        i += 1;
+    }
+}
+
+// Copies the first n cells of a list to the front of another.
+fn copy_cells(from: &[i32], n: usize, to: &mut [i32])
+    requires { ⌜ (n ≤ length (now from)) × (n ≤ length (now to)) ⌝ }
+    ensures { λ _. ⌜ now (to .exit) ≡ laid 0 (take n (now (from .entry))) (now (to .entry)) ⌝ }
+{
+    let mut place = 0;
+    while place < n {
+        let c = from[place];
+        to[place] = c;
+        place += 1;
+    }
+}
+
+// Reads a text: its head is the answer, its colours, as doubles, go to the front of the palette, its cells to the front of the cells.
+// Lent lists that do not hold 256 colours and 40 by 40 cells are refused by 2. A refusal leaves both as they were.
+pub fn read(text: &[u8], palette: &mut [f64], cells: &mut [i32]) -> Parsed
+    ensures { λ r. ⌜ r ≡ readAnswer (readInto (now (text .entry)) (now (palette .entry)) (now (cells .entry))) ⌝ }
+    ensures { λ r. ⌜ now (palette .exit) ≡ readPalette (readInto (now (text .entry)) (now (palette .entry)) (now (cells .entry))) (now (palette .entry)) ⌝ }
+    ensures { λ r. ⌜ now (cells .exit) ≡ readCells (readInto (now (text .entry)) (now (palette .entry)) (now (cells .entry))) (now (cells .entry)) ⌝ }
+{
+    if palette.len() < 768 {
+        return Parsed::Refused(2);
+    }
+    if cells.len() < 1600 {
+        return Parsed::Refused(2);
+    }
+    let mut colours = [0.0; 768];
+    let mut sheet = [0i32; 1600];
+    let answer = read_text(text, &mut colours, &mut sheet);
+    let counts = counts_of(answer);
+    copy_doubles(&colours, counts.doubles, palette);
+    copy_cells(&sheet, counts.cells, cells);
+    answer
 }

@@ -9,8 +9,8 @@ use Rattle.silk_text.proofs.Laying.{laid-sets}
 use Rattle.silk_text.proofs.sheet.put_colour.Statement.{statement}
 use Rattle.silk_text.proofs.sheet.put_colour.Tie as tie
 
-rgb8-to-lab-one-requires : tie.Need-rgb8-to-lab-one-requires
-rgb8-to-lab-one-requires c κs = tt
+rgb8-to-lab-by-requires : tie.Need-rgb8-to-lab-by-requires
+rgb8-to-lab-by-requires c κs = search needs
 
 mul-at : tie.Need-mul-at
 mul-at c = search needs
@@ -45,14 +45,14 @@ same-length c = search needs
 returns : tie.Need-returns
 unfolding doubles
 returns c =
-    let a = c .before .before .args in
-    rw (c .rgb8-to-lab-one .ensures, add-one (3 * a .i), add-two (3 * a .i)) (laid-sets (3 * a .i) (doubles (a .c)) (a .palette .now) (omega arith))
+    let a = c .before .before .before .args in
+    rw (c .rgb8-to-lab-by .ensures, add-one (3 * a .i), add-two (3 * a .i)) (laid-sets (3 * a .i) (doubles (a .c)) (a .palette .now) (omega arith))
 
 pub put-colour-spec : {M : Type 1} → statement M
 put-colour-spec =
     tie.close
     (tie.spec
-    rgb8-to-lab-one-requires
+    rgb8-to-lab-by-requires
     mul-at
     mul-palette
     slice-write-palette

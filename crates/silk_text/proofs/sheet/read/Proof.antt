@@ -1,30 +1,66 @@
--- `read` meets its contract: the sizes of the lent lists, what the text says, and its end. Assumes nothing.
+-- `read` meets its contract: the sizes of the lent lists, and what was read copied to them. Assumes nothing.
 use borrow.Author.Needs.{needs}
-use mathlib.Core.Path.{sym}
-use mathlib.Core.Logic.{inl, inr}
+use mathlib.Core.Path.{_∙_}
 use native.Mathlib.Omega.{arith}
-use Rattle.silk_text.specs.Answers.{filed, parsed}
-use Rattle.cursor.proofs.Chaining.{known}
-use Rattle.silk_text.proofs.Whole.{into-narrow, into-short, into-no, into-over, into-yes}
+use Rattle.silk_text.specs.Answers.{readInto}
+use Rattle.silk_text.proofs.Keeping.{Handed, narrow, short, handed}
 use Rattle.silk_text.proofs.sheet.read.Statement.{statement}
 use Rattle.silk_text.proofs.sheet.read.Tie as tie
 
+abbrev start : tie.After-read-text → tie.Start
+start c = c .before .before .before .before .before .before .before
+
+-- what is read goes to the lent lists
+handing : (c : tie.After-read-text) →
+    Handed (readInto (start c .args .text .now) (start c .args .palette .now) (start c .args .cells .now)) (start c .args .palette .now) (start c .args .cells .now)
+    (c .read-text .result) (c .read-text .last .1 .0) (c .read-text .last .1 .1 .0)
+handing c =
+    let sized = c .before .before .before in
+    handed _ _ _ _ _ (sized .before .if1 .left) (sized .if2 .left) (c .read-text .ensures)
+
 returns : tie.Need-returns
-unfolding parsed
-returns c = sym (into-narrow _ _ _ (c .if1 .taken))
+returns c = let l = narrow _ _ _ (c .if1 .taken) in (l .answers, (l .colours, l .sheet))
 
 returns-2 : tie.Need-returns-2
-unfolding parsed
-returns-2 c = sym (into-short _ _ _ (c .before .if1 .left) (c .if2 .taken))
+returns-2 c = let l = short _ _ _ (c .before .if1 .left) (c .if2 .taken) in (l .answers, (l .colours, l .sheet))
 
-limited-requires : tie.Need-limited-requires
-limited-requires c κs = tt
+returns-3 : tie.Need-returns-3
+returns-3 c =
+    let doubles = c .before .before .before .before .before .before in
+    let counts = doubles .before .before .before in
+    let told = counts .counts-of .ensures in
+    let left = handing (counts .before .before .before) .left in
+    (left .answers, (rw (told .0) at (doubles .copy-doubles .ensures) ∙ left .colours, rw (told .1) at (c .before .copy-cells .ensures) ∙ left .sheet))
 
-read-file-requires : tie.Need-read-file-requires
-read-file-requires c κs = omega arith
+slice-aggregate-read-text : tie.Need-slice-aggregate-read-text
+slice-aggregate-read-text c = search needs
 
-enum-known-h : tie.Need-enum-known-h
-enum-known-h c = search needs
+slice-aggregate-read-text-2 : tie.Need-slice-aggregate-read-text-2
+slice-aggregate-read-text-2 c = search needs
+
+read-text-requires : tie.Need-read-text-requires
+read-text-requires c κs = search needs
+
+counts-of-requires : tie.Need-counts-of-requires
+counts-of-requires c κs = let h = handing (c .before .before) in (h .few, h .held)
+
+slice-aggregate-copy-doubles : tie.Need-slice-aggregate-copy-doubles
+slice-aggregate-copy-doubles c = search needs
+
+copy-doubles-requires : tie.Need-copy-doubles-requires
+copy-doubles-requires c κs =
+    let counts = c .before .before in
+    let h = handing (counts .before .before .before) in
+    (omega (arith, counts .counts-of .ensures .0, h .few), omega (arith, counts .counts-of .ensures .0, h .few))
+
+slice-aggregate-copy-cells : tie.Need-slice-aggregate-copy-cells
+slice-aggregate-copy-cells c = search needs
+
+copy-cells-requires : tie.Need-copy-cells-requires
+copy-cells-requires c κs =
+    let counts = c .before .before .before .before .before .before .before in
+    let h = handing (counts .before .before .before) in
+    (omega (arith, counts .counts-of .ensures .1, h .held), omega (arith, counts .counts-of .ensures .1, h .held))
 
 same-length : tie.Need-same-length
 same-length c = search needs
@@ -32,78 +68,20 @@ same-length c = search needs
 same-length-2 : tie.Need-same-length-2
 same-length-2 c = search needs
 
-returns-3 : tie.Need-returns-3
-unfolding filed parsed
-returns-3 c =
-    let file = c .before .before .before .before .before .before .before .before in
-    let part = file .before .before .before in
-    let cells = part .before in
-    sym (into-over _ _ _ _ (cells .before .if1 .left) (cells .if2 .left) (part .limited .ensures) _ (known (filed _ _ _) (file .read-file .ensures) (c .before .before .before .h .given .1)) (inl (c .if3 .taken)))
-
-same-length-3 : tie.Need-same-length-3
-same-length-3 c = search needs
-
-same-length-4 : tie.Need-same-length-4
-same-length-4 c = search needs
-
-returns-4 : tie.Need-returns-4
-unfolding filed parsed
-returns-4 c =
-    let file = c .before .before .before .before .before .before .before .before .before in
-    let part = file .before .before .before in
-    let cells = part .before in
-    sym (into-over _ _ _ _ (cells .before .if1 .left) (cells .if2 .left) (part .limited .ensures) (c .before .before .before .before .h .given .0 .1 .0 .at) (known (filed _ _ _) (file .read-file .ensures) (c .before .before .before .before .h .given .1)) (inr (c .if4 .taken)))
-
-enum-known-n : tie.Need-enum-known-n
-enum-known-n c = search needs
-
-same-length-5 : tie.Need-same-length-5
-same-length-5 c = search needs
-
-same-length-6 : tie.Need-same-length-6
-same-length-6 c = search needs
-
-returns-5 : tie.Need-returns-5
-unfolding filed parsed
-returns-5 c =
-    let file = c .before .before .before .before .before .before .before .before .before in
-    let part = file .before .before .before in
-    let cells = part .before in
-    sym (into-yes _ _ _ _ (cells .before .if1 .left) (cells .if2 .left) (part .limited .ensures) _ (known (filed _ _ _) (file .read-file .ensures) (c .before .before .before .before .h .given .1)) (c .before .if3 .left) (c .if4 .left))
-
-same-length-7 : tie.Need-same-length-7
-same-length-7 c = search needs
-
-same-length-8 : tie.Need-same-length-8
-same-length-8 c = search needs
-
-returns-6 : tie.Need-returns-6
-unfolding filed parsed
-returns-6 c =
-    let file = c .before .before .before .before .before .before in
-    let part = file .before .before .before in
-    let cells = part .before in
-    sym (into-no _ _ _ _ (cells .before .if1 .left) (cells .if2 .left) (part .limited .ensures) (known (filed _ _ _) (file .read-file .ensures) (c .before .n .given .1)))
-
 pub read-spec : {M : Type 1} → statement M
 read-spec =
     tie.close
     (tie.spec
     returns
     returns-2
-    limited-requires
-    read-file-requires
-    enum-known-h
+    slice-aggregate-read-text
+    slice-aggregate-read-text-2
+    read-text-requires
+    counts-of-requires
+    slice-aggregate-copy-doubles
+    copy-doubles-requires
+    slice-aggregate-copy-cells
+    copy-cells-requires
     same-length
     same-length-2
-    returns-3
-    same-length-3
-    same-length-4
-    returns-4
-    enum-known-n
-    same-length-5
-    same-length-6
-    returns-5
-    same-length-7
-    same-length-8
-    returns-6)
+    returns-3)

@@ -15,11 +15,14 @@ use Rattle.silk_text.proofs.sheet.read_colours.Statement.{statement}
 use Rattle.silk_text.proofs.sheet.read_colours.Tie as tie
 
 abbrev Inv-loop : tie.InvT-loop
-Inv-loop text colours palette₀ to₀ i₀ palette to i =
+Inv-loop text colours palette₀ table to₀ i₀ palette to i =
     Going (λ _. colourLine) doubles 3 colours (drop (to₀ .at) text) 0 palette₀ i (drop (to .at) text) palette
 
 abbrev μ-loop : tie.MeasureT-loop
-μ-loop text colours palette₀ to₀ i₀ palette to i = colours - i
+μ-loop text colours palette₀ table to₀ i₀ palette to i = colours - i
+
+decode-table-requires : tie.Need-decode-table-requires Inv-loop μ-loop
+decode-table-requires c κs = tt
 
 loop-holds : tie.Need-loop-holds Inv-loop μ-loop
 loop-holds c = going-none 3 _ 0
@@ -30,8 +33,13 @@ colour-line-requires c κs = tt
 enum-known-c : tie.Need-enum-known-c Inv-loop μ-loop
 enum-known-c c = search needs
 
+slice-aggregate-put-colour : tie.Need-slice-aggregate-put-colour Inv-loop μ-loop
+slice-aggregate-put-colour c = search needs
+
 put-colour-requires : tie.Need-put-colour-requires Inv-loop μ-loop
-put-colour-requires c κs = omega (arith, c .before .before .before .before .before .before .loop .inv .kept)
+put-colour-requires c κs =
+    let at = c .before .before .before .before .before .before .before in
+    (at .before .decode-table .ensures, omega (arith, at .loop .inv .kept))
 
 enum-known-n : tie.Need-enum-known-n Inv-loop μ-loop
 enum-known-n c = search needs
@@ -54,9 +62,10 @@ loop-less c = omega arith
 loop-again : tie.Need-loop-again Inv-loop μ-loop
 unfolding coloured doubles
 loop-again c =
-    let told = c .before .before .before .before in
-    let at = told .before .before .before .before in
-    going-more 3 _ 0 (at .before .loop .inv) (at .loop-test .taken) (known (coloured _) (told .before .before .before .colour-line .ensures) (told .before .c .given .1)) refl (omega arith) (c .before .before .put-colour .ensures) (omega arith)
+    let told = c .before .before .before .before .before .before in
+    let line = told .before .before in
+    let at = line .before in
+    going-more 3 _ 0 (at .before .loop .inv) (at .loop-test .taken) (known (coloured _) (line .colour-line .ensures) (told .c .given .1)) refl (omega arith) (c .before .before .put-colour .ensures) (omega arith)
 
 same-length-2 : tie.Need-same-length-2 Inv-loop μ-loop
 same-length-2 c = c .before .loop .inv .kept
@@ -73,9 +82,11 @@ read-colours-spec =
     (tie.spec
     Inv-loop
     μ-loop
+    decode-table-requires
     loop-holds
     colour-line-requires
     enum-known-c
+    slice-aggregate-put-colour
     put-colour-requires
     enum-known-n
     same-length
