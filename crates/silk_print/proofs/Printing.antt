@@ -11,7 +11,7 @@ use Rattle.base.specs.Places.{tableFrom, table}
 use Rattle.silk_print.specs.Print.{numeral, each, Put}
 use Rattle.silk_text.specs.Answers.{laid}
 use Rattle.silk_print.proofs.Digits.{numeral-one, numeral-more, more-length}
-use Rattle.silk_text.proofs.Laying.{laid-none, laid-length, laid-more, laid-one}
+use Rattle.silk_text.proofs.Laying.{laid-none, laid-length, laid-more, laid-one, Copied, copied-all}
 use Rattle.silk_text.proofs.Whole.{row-fits}
 
 -- ---- one after the other
@@ -113,28 +113,13 @@ module _ {f : ℕ → List ℕ} {m n at : ℕ} {old : List ℕ} {i to : ℕ} {no
 
 -- ---- a copy
 
--- the first i bytes are put
-pub record Copied (bytes : List ℕ) (at : ℕ) (old : List ℕ) (i : ℕ) (now : List ℕ) : Type 0 where
-  pub inside : i ≤ length bytes
-  pub put : Put i (take i bytes) at old now (at + i)
-  pub kept : length now ≡ length old
-
-pub copied-none : (bytes : List ℕ) (at : ℕ) (old : List ℕ) → Copied bytes at old 0 old
-copied-none bytes at old = record { inside = zero-le; put = record { short = zero-le; list = laid-none at old; next = refl }; kept = refl }
-
-module _ {bytes : List ℕ} {at : ℕ} {old : List ℕ} {i : ℕ} {now : List ℕ} (g : Copied bytes at old i now) where
-  pub copied-more : i < length bytes → at + length bytes ≤ length old → Copied bytes at old (i + 1) (set now (at + i) (getD bytes i 0))
-  copied-more h r =
-      let p = put-both (g .put) (put-one (getD bytes i 0) (at + i) now (omega (arith, g .kept))) (omega arith) in
-      let e : take i bytes ++ getD bytes i 0 ∷ [] ≡ take (i + 1) bytes = sym (take-suc bytes i 0 h) ∙ ap (λ (k : ℕ). take k bytes) (sym (add-one i)) in
-      record {
-        inside = omega arith;
-        put = rw (add-assoc at i 1) at (put-as {n = i + 1} p e (omega arith));
-        kept = length-set now (at + i) (getD bytes i 0) ∙ g .kept;
-      }
-
-  pub copied-all : length bytes ≤ i → Put (length bytes) bytes at old now (at + i)
-  copied-all h = put-as (g .put) (take-all i bytes h) (omega (arith, g .inside))
+pub copied-put : {bytes : List ℕ} {at : ℕ} {old : List ℕ} {i : ℕ} {now : List ℕ} → Copied bytes (length bytes) at old i now → length bytes ≤ i → Put (length bytes) bytes at old now (at + i)
+copied-put {bytes} {at} {old} g h =
+    record {
+      short = le-refl (length bytes);
+      list = copied-all g h ∙ ap (λ (l : List ℕ). laid at l old) (take-all (length bytes) bytes (le-refl (length bytes)));
+      next = omega (arith, g .inside);
+    }
 
 -- ---- a number
 

@@ -7,9 +7,10 @@ ghost use lib.IntN.{natAbs};
 ghost use lib.Signed.{nonNeg};
 ghost use lib.ListN.{length};
 ghost use Rattle.silk_print.specs.Print.{numeral, signedNumeral, hexDigit, hexByte, hexColour, numberText, indexText, clippedText, headText, colourText, coloursText, cellText, cellsText, rowText, rowsText, resultText, refusalText, printable, resultFits, refusalFits, printedAnswer, printedBuffer, Put, Sized, Printable, roomFor, sizesText};
+use channel::threshold_table;
 use color::Rgb8;
 use color::cielab::entry;
-use color::cielab::lab_to_rgb8_one;
+use color::cielab::lab_to_rgb8_by;
 use rules::Facts;
 use rules::LineIndex;
 
@@ -191,11 +192,12 @@ fn put_colours(out: &mut [u8], at: usize, palette: &[f64], k: usize) -> usize
     requires { ⌜ (3 * k ≤ length (now palette)) × (at + k * 14 ≤ length (now out)) ⌝ }
     ensures { λ r. ⌜ Put (k * 14) (coloursText (now (palette .entry)) k) at (now (out .entry)) (now (out .exit)) r ⌝ }
 {
+    let table = threshold_table();
     let mut to = at;
     let mut i = 0;
     while i < k {
         let lab = entry(palette, i);
-        to = put_colour_line(out, to, lab_to_rgb8_one(lab));
+        to = put_colour_line(out, to, lab_to_rgb8_by(&table, lab));
         i += 1;
     }
     to
