@@ -1,28 +1,23 @@
 -- What the program may leave unread, and that its lent lists suffice. Assumes nothing.
 use Prim.Native.Nat.{ℕ, _+_, _*_, _≤_}
-use mathlib.Core.Path.{_≡_, refl, sym, ap, _∙_, subst}
+use mathlib.Core.Path.{_≡_, refl, ap, _∙_, subst}
 use mathlib.Core.Bool.{Bool, true, false}
-use mathlib.Core.List.{List, [], _∷_, _++_, flatMap}
+use mathlib.Core.List.{List, [], _∷_, _++_}
 use native.Mathlib.Nat.{mul-le-mul}
 use native.Mathlib.Omega.{arith}
-use lib.Ieee.{Float}
 use lib.IntN.{pos}
 use lib.ListN.{length, take, drop, length-append, length-take, length-drop, length-replicate}
 use lib.Seq.{take-take}
 use borrow.Author.Tests.{le-ltb, eq-eqb}
 use Rattle.base.specs.Doubles.{decimal}
-use Rattle.color.specs.declared.Rgb8.{Rgb8}
 use Rattle.rules.specs.Rows.{tooLarge, tooShort, cramped, badPalette}
 use Rattle.rules.specs.Sheet.{needed}
 use Rattle.silk_text.specs.Answers.{laid, lent}
-use Rattle.cursor.specs.Lines.{colourLine, head}
-use Rattle.silk_text.specs.Format.{doubles, colours, rows, File, lists, file, ended, most, parse}
-use Rattle.cursor.specs.Reader.{Got, got, refused, Reader, chain, _>>=_, give, series}
-use Rattle.cursor.specs.declared.head.Head.{Head}
-use Rattle.cursor.proofs.Chaining.{chain-first}
+use Rattle.silk_text.specs.Format.{File, file, ended, most, parse}
+use Rattle.cursor.specs.Reader.{Got, got, refused, Reader, chain}
 use Rattle.silk_text.proofs.Laying.{laid-length}
-use Rattle.silk_text.proofs.Repeating.{series-length}
-use Rattle.silk_text.proofs.Whole.{Bounded, head-is, lent-got}
+use Rattle.silk_text.proofs.Whole.{lent-got}
+use Rattle.silk_text.proofs.Keeping.{Small, parse-small}
 use Rattle.silk_reply.specs.Claims.{Suffices}
 use Rattle.silk_reply.specs.Reply.{noColours, noCells, gotText, silkText}
 
@@ -55,45 +50,6 @@ unfolding silkText
 text-cut text = ap (λ (g : Got File). gotText (lent noColours noCells g)) (parse-cut text)
 
 -- ---- the lent lists suffice
-
-doubles-length : (cs : List Rgb8) → length (flatMap doubles cs) ≡ 3 * length cs
-unfolding flatMap doubles
-doubles-length [] = refl
-doubles-length (c ∷ cs) = simp length-append (omega (arith, doubles-length cs))
-
-colours-length : (k : ℕ) (text : List ℕ) {p : List Float} {rest : List ℕ} → colours k text ≡ got p rest → length p ≡ 3 * k
-unfolding colours _>>=_ give
-colours-length k text {p} {rest} e =
-    let a = chain-first (series 0 k (λ i. colourLine) text) (λ cs. give (flatMap doubles cs)) e in
-    let t : got (flatMap doubles (a .value)) (a .rest) ≡ got p rest = a .then in
-    let q : flatMap doubles (a .value) ≡ p = cc in
-    sym (ap length q) ∙ doubles-length (a .value) ∙ ap (λ (n : ℕ). 3 * n) (series-length (λ i. colourLine) k 0 text (a .read))
-
--- what was read has few colours and cells
-record Small (f : File) : Type 0 where
-  bounded : Bounded (f .head)
-  entries : length (f .palette) ≡ 3 * f .head .colours
-
-lists-small : (h : Head) (text : List ℕ) {f : File} {rest : List ℕ} → Bounded h → lists h text ≡ got f rest → Small f
-unfolding lists _>>=_ give
-lists-small h text {f} {rest} b e =
-    let a = chain-first (colours (h .colours) text) (λ p. rows (h .height) (h .width) >>= λ c. give (record { head = h; palette = p; cells = c })) e in
-    let d = chain-first (rows (h .height) (h .width) (a .rest)) (λ c. give (record { head = h; palette = a .value; cells = c })) (a .then) in
-    let t : got (record { head = h; palette = a .value; cells = d .value }) (d .rest) ≡ got f rest = d .then in
-    let q : record { head = h; palette = a .value; cells = d .value } ≡ f = cc in
-    subst Small q (record { bounded = b; entries = colours-length (h .colours) text (a .read) })
-
-ended-is : (f : File) (text : List ℕ) {g : File} {rest : List ℕ} → ended f text ≡ got g rest → f ≡ g
-unfolding ended
-ended-is f [] e = cc
-ended-is f (c ∷ cs) e = let z : _≡_ {A = ℕ} 0 1 = cc in absurd (omega arith)
-
-parse-small : (text : List ℕ) {f : File} {rest : List ℕ} → parse text ≡ got f rest → Small f
-unfolding parse file _>>=_
-parse-small text e =
-    let a = chain-first (file (take most text)) (λ f rest. ended f (rest ++ drop most text)) e in
-    let b = chain-first (head (take most text)) lists (a .read) in
-    subst Small (ended-is (a .value) (a .rest ++ drop most text) (a .then)) (lists-small (b .value) (b .rest) (head-is (take most text) (b .read)) (b .then))
 
 needed-most : (h w : ℕ) (pads : Bool) → h ≤ 40 → w ≤ 40 → needed h w pads ≤ 1764
 unfolding needed

@@ -3,6 +3,7 @@ use Prim.Native.Nat.{ℕ}
 use mathlib.Core.Path.{_≡_, refl, sym, ap, _∙_}
 use mathlib.Core.Bool.{true}
 use mathlib.Core.List.{List}
+use native.Mathlib.Omega.{arith}
 use lib.IntN.{ℤ}
 use lib.Ieee.{Float}
 use lib.ListN.{length}
@@ -12,10 +13,13 @@ use Rattle.rules.specs.declared.Processing.{Processing}
 use Rattle.rules.specs.declared.Processing.the-variants.{Processed, Refused}
 use Rattle.postprocess.proofs.Chain.{Met}
 use Rattle.run_checks.proofs.Refusing.{Call}
-use Rattle.silk_text.specs.Answers.{readInto, lent}
+use Rattle.silk_text.specs.Answers.{readInto, readAnswer, readPalette, readCells, lent}
 use Rattle.silk_text.specs.Format.{File, parse}
 use Rattle.silk_print.specs.Print.{resultText, refusalText, resultFits, printedAnswer, printedBuffer}
-use Rattle.cursor.specs.Reader.{Got}
+use Rattle.silk_text.specs.declared.sheet.Parsed
+use Rattle.silk_text.specs.declared.sheet.Parsed.{Parsed}
+use Rattle.silk_text.specs.declared.sheet.Parsed.the-variants.{Sheet}
+use Rattle.cursor.specs.Reader.{Got, got, refused}
 use Rattle.cursor.specs.declared.head.Head.{Head}
 use Rattle.silk_print.specs.declared.Printed.{Printed}
 use Rattle.silk_reply.specs.Reply.{noColours, noCells, workSize, Ran, Front, answerText, sheetText, gotText, silkText, counted}
@@ -29,9 +33,26 @@ into : (text : List ℕ) → readInto text noColours noCells ≡ lent noColours 
 unfolding readInto noColours noCells
 into text = refl
 
-pub replied : (text : List ℕ) {g : Got File} → readInto text noColours noCells ≡ g → silkText text ≡ gotText g
-unfolding silkText
-replied text e = ap gotText (sym (into text) ∙ e)
+sheet-text : (g : Got File) {h : Head} {palette : List Float} {cells : List ℤ} → Sheet h ≡ readAnswer g → palette ≡ readPalette g noColours → cells ≡ readCells g noCells →
+    gotText g ≡ sheetText h palette cells
+unfolding gotText readAnswer readPalette readCells
+sheet-text (got f rest) {h} a b c = let e : f .head ≡ h = cc in rw (e, b, c)
+sheet-text (refused n) a b c = let z : _≡_ {A = ℕ} 0 1 = cc in absurd (omega arith)
+
+refusal-text : (g : Got File) {n : ℕ} → Parsed.the-variants.Refused n ≡ readAnswer g → gotText g ≡ refusalText n
+unfolding gotText readAnswer
+refusal-text (got f rest) a = let z : _≡_ {A = ℕ} 0 1 = cc in absurd (omega arith)
+refusal-text (refused m) {n} a = let e : m ≡ n = cc in ap refusalText e
+
+module _ (text : List ℕ) {answer : Parsed} (a : answer ≡ readAnswer (readInto text noColours noCells)) where
+  pub read-sheet : {h : Head} {palette : List Float} {cells : List ℤ} → answer ≡ Sheet h → palette ≡ readPalette (readInto text noColours noCells) noColours →
+      cells ≡ readCells (readInto text noColours noCells) noCells → silkText text ≡ sheetText h palette cells
+  unfolding silkText
+  read-sheet e b c = ap gotText (sym (into text)) ∙ sheet-text (readInto text noColours noCells) (sym e ∙ a) b c
+
+  pub read-refused : {n : ℕ} → answer ≡ Parsed.the-variants.Refused n → silkText text ≡ refusalText n
+  unfolding silkText
+  read-refused e = ap gotText (sym (into text)) ∙ refusal-text (readInto text noColours noCells) (sym e ∙ a)
 
 -- ---- by what `run` came to
 

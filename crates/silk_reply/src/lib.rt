@@ -1,6 +1,6 @@
 // What the program `silk` does: it reads a text, runs its sheet, and writes what comes of it.
 ghost use mathlib.Core.Path.{_≡_};
-ghost use lib.ListN.{length};
+ghost use lib.ListN.{length, take};
 ghost use Rattle.silk_text.specs.Answers.{laid};
 ghost use Rattle.silk_print.specs.Print.{refusalText};
 ghost use Rattle.silk_reply.specs.Reply.{sheetText, silkText, Ran, Front, counted};
@@ -14,7 +14,7 @@ use silk_text::sheet::Parsed;
 use silk_text::sheet::read;
 
 // One byte more than a text may have.
-const TEXT: usize = 65537;
+pub const TEXT: usize = 65537;
 
 // Room for every text that is printed.
 pub const ROOM: usize = 32768;
@@ -93,11 +93,27 @@ pub fn respond(text: &[u8], out: &mut [u8; ROOM]) -> usize
     }
 }
 
-// Reads a text from one file, and writes what comes of it to another. The answer is whether all of it was written.
-pub fn serve(from: i32, to: i32) -> bool {
-    let mut text = [0u8; TEXT];
-    let mut out = [0u8; ROOM];
-    let n = io::read_full(from, &mut text);
-    let count = respond(&text[..n], &mut out);
-    io::write_all(to, &out[..count])
+// What `serve` did: how many bytes it read to the front of the text, how many of the answer it handed on, and whether all of these were written.
+pub struct Served {
+    pub read: usize,
+    pub put: usize,
+    pub written: bool,
+}
+
+// Reads a text from one file, and writes what comes of it to another.
+// What the contracts of `io` leave open is left open here: which bytes are read into the text and how many, and whether all was written.
+pub fn serve(from: i32, to: i32, text: &mut [u8; TEXT], out: &mut [u8; ROOM]) -> Served
+    ensures { λ r. ⌜ r .put ≡ length (silkText (take (r .read) (now (text .exit)))) ⌝ }
+    ensures { λ r. ⌜ now (out .exit) ≡ laid 0 (silkText (take (r .read) (now (text .exit)))) (now (out .entry)) ⌝ }
+{
+    let n = io::read_full(from, text);
+    let input: &[u8] = text;
+    let count = respond(&input[..n], out);
+    let output: &[u8] = out;
+    let written = io::write_all(to, &output[..count]);
+    Served {
+        read: n,
+        put: count,
+        written,
+    }
 }

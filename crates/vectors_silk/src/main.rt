@@ -6,6 +6,8 @@ ghost use Rattle.io.specs.Counts.{Counts};
 use check::same;
 use libc::STDOUT_FILENO;
 use replay::stream::least;
+use silk_reply::ROOM;
+use silk_reply::TEXT;
 use silk_reply::serve;
 
 // Room for the file.
@@ -139,12 +141,14 @@ fn line(cases: &[u8; CASES], from: usize, buffer: &mut [u8]) -> Read
 // Whether the program's work gives this answer to a text. Both go by way of files.
 fn gives(text: &[u8], answer: &[u8]) -> bool {
     let mut got = [0u8; LINE];
+    let mut read = [0u8; TEXT];
+    let mut out = [0u8; ROOM];
     let file = os::open_overwrite(b"text");
     io::write_all(file, text);
     libc::close(file);
     let from = os::open_read(b"text");
     let to = os::open_overwrite(b"answer");
-    serve(from, to);
+    serve(from, to, &mut read, &mut out);
     libc::close(from);
     libc::close(to);
     let back = os::open_read(b"answer");

@@ -1,11 +1,9 @@
 -- `respond` meets its contract. Assumes nothing.
 use borrow.Author.Needs.{needs}
-use mathlib.Core.Path.{sym, ap, _∙_}
 use lib.Ieee.{ofBits, round}
 use Rattle.base.specs.Doubles.{decimal}
-use Rattle.silk_text.specs.Answers.{parsed}
-use Rattle.silk_reply.specs.Reply.{noColours, noCells, gotText}
-use Rattle.silk_reply.proofs.Replying.{replied}
+use Rattle.silk_reply.specs.Reply.{noColours, noCells}
+use Rattle.silk_reply.proofs.Replying.{read-sheet, read-refused}
 use Rattle.silk_reply.proofs.respond.Statement.{statement}
 use Rattle.silk_reply.proofs.respond.Tie as tie
 
@@ -31,16 +29,17 @@ put-refusal-requires : tie.Need-put-refusal-requires
 put-refusal-requires c κs = search needs
 
 returns : tie.Need-returns
-unfolding noColours noCells parsed gotText decimal ofBits round
+unfolding noColours noCells decimal ofBits round
 returns c =
-    let text = replied _ (sym (c .before .before .before .before .before .before .before .before .before .read .ensures) ∙ ap (parsed _ _) (c .before .before .before .before .before .h .given .1)) in
-    rw text (c .put-sheet .ensures .size, c .put-sheet .ensures .list)
+    let told = c .before .before .before .before .before in
+    let read = told .before .before .before .before .read .ensures in
+    rw (read-sheet _ (read .0) (told .h .given .1) (read .1 .0) (read .1 .1)) (c .put-sheet .ensures .size, c .put-sheet .ensures .list)
 
 returns-2 : tie.Need-returns-2
-unfolding noColours noCells parsed gotText decimal ofBits round
+unfolding noColours noCells decimal ofBits round
 returns-2 c =
-    let text = replied _ (sym (c .before .before .before .before .before .before .before .read .ensures) ∙ ap (parsed _ _) (c .before .before .before .n .given .1)) in
-    rw text (c .put-refusal .ensures .size, c .put-refusal .ensures .list)
+    let told = c .before .before .before in
+    rw (read-refused _ (told .before .before .before .before .read .ensures .0) (told .n .given .1)) (c .put-refusal .ensures .size, c .put-refusal .ensures .list)
 
 pub respond-spec : {M : Type 1} → statement M
 respond-spec =
