@@ -2,11 +2,11 @@
 use Prim.Native.Nat.{ℕ, suc, _+_, _-_, _*_, _/_, _%_, _≤_, _<_, zero-le}
 use mathlib.Core.Path.{_≡_, refl, sym, ap, _∙_}
 use mathlib.Core.List.{List, [], _∷_, _++_, append-assoc, append-nil, flatMap}
-use native.Mathlib.Nat.{add-zero, add-assoc, sub-zero, suc-mul, le-refl}
+use native.Mathlib.Nat.{add-zero, sub-zero, suc-mul, le-refl}
 use native.Mathlib.Numerals.{add-one}
 use native.Mathlib.Omega.{arith}
-use lib.ListN.{length, getD, take, set, length-append, length-set}
-use lib.Seq.{take-suc, take-all}
+use lib.ListN.{length, set, length-append}
+use lib.Seq.{take-all}
 use Rattle.base.specs.Places.{tableFrom, table}
 use Rattle.silk_print.specs.Print.{numeral, each, Put}
 use Rattle.silk_text.specs.Answers.{laid}

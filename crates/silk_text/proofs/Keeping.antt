@@ -92,6 +92,17 @@ pub record Handed (g : Got File) (palette : List Float) (cells : List ℤ) (answ
   pub held : cellsOf answer ≤ 1600
   pub left : Left g palette cells answer (laid 0 (take (doublesOf answer) colours) palette) (laid 0 (take (cellsOf answer) sheet) cells)
 
+-- what the copying leaves
+pub handed-left : {g : Got File} {palette : List Float} {cells : List ℤ} {answer : Parsed} {colours : List Float} {sheet : List ℤ} → Handed g palette cells answer colours sheet →
+    {n m : ℕ} → n ≡ doublesOf answer → m ≡ cellsOf answer → {palette′ : List Float} {cells′ : List ℤ} →
+    palette′ ≡ laid 0 (take n colours) palette → cells′ ≡ laid 0 (take m sheet) cells → Left g palette cells answer palette′ cells′
+handed-left {palette = palette} {cells = cells} {colours = colours} {sheet = sheet} h p q a b =
+    record {
+      answers = h .left .answers;
+      colours = a ∙ ap (λ (k : ℕ). laid 0 (take k colours) palette) p ∙ h .left .colours;
+      sheet = b ∙ ap (λ (k : ℕ). laid 0 (take k sheet) cells) q ∙ h .left .sheet;
+    }
+
 front : {A : Type 0} (n : ℕ) (new old : List A) → length new ≡ n → take n (laid 0 new old) ≡ new
 unfolding laid
 front n new old e = take-at new (drop (0 + length new) old) n e

@@ -90,17 +90,7 @@ unfolding flatMap
 singles [] = refl
 singles {A = A} (x ∷ l) = ap (λ (t : List A). x ∷ t) (singles l)
 
-pub series-length : {A : Type 0} (p : ℕ → Reader A) (n i : ℕ) (text : List ℕ) {xs : List A} {end : List ℕ} → series i n p text ≡ got xs end → length xs ≡ n
-unfolding series
-series-length p zero i text {xs} {end} e = let q : xs ≡ [] = cc in ap length q
-series-length p (suc n) i text {xs} {end} e =
-    let a = chain-first (p i text) (λ x rest. chain (series (suc i) n p rest) (λ ys last. got (x ∷ ys) last)) e in
-    let b = chain-first (series (suc i) n p (a .rest)) (λ ys last. got (a .value ∷ ys) last) (a .then) in
-    let t : got (a .value ∷ b .value) (b .rest) ≡ got xs end = b .then in
-    let q : xs ≡ a .value ∷ b .value = cc in
-    ap length q ∙ ap suc (series-length p n (suc i) (a .rest) (b .read))
-
--- what a series comes to is so many elements long, if each of its values is m of them
+-- n values of a series come to n times m elements, if each comes to m
 pub series-size : {A B : Type 0} (p : ℕ → Reader A) (put : A → List B) (m : ℕ) → ((i : ℕ) (text : List ℕ) (x : A) (end : List ℕ) → p i text ≡ got x end → length (put x) ≡ m) →
     (n i : ℕ) (text : List ℕ) {xs : List A} {end : List ℕ} → series i n p text ≡ got xs end → length (flatMap put xs) ≡ n * m
 unfolding series flatMap
@@ -111,3 +101,7 @@ series-size p put m each (suc n) i text {xs} {end} e =
     let t : got (a .value ∷ b .value) (b .rest) ≡ got xs end = b .then in
     let q : xs ≡ a .value ∷ b .value = cc in
     rw q (length-append (put (a .value)) (flatMap put (b .value)) ∙ omega (arith, suc-mul n m, each i text (a .value) (a .rest) (a .read), series-size p put m each n (suc i) (a .rest) (b .read)))
+
+pub series-length : {A : Type 0} (p : ℕ → Reader A) (n i : ℕ) (text : List ℕ) {xs : List A} {end : List ℕ} → series i n p text ≡ got xs end → length xs ≡ n
+unfolding flatMap
+series-length p n i text {xs} e = ap length (sym (singles xs)) ∙ omega (arith, series-size p (λ x. x ∷ []) 1 (λ _ _ _ _ _. refl) n i text e)

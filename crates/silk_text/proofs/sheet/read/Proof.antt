@@ -1,9 +1,8 @@
 -- `read` meets its contract: the sizes of the lent lists, and what was read copied to them. Assumes nothing.
 use borrow.Author.Needs.{needs}
-use mathlib.Core.Path.{_∙_}
 use native.Mathlib.Omega.{arith}
 use Rattle.silk_text.specs.Answers.{readInto}
-use Rattle.silk_text.proofs.Keeping.{Handed, narrow, short, handed}
+use Rattle.silk_text.proofs.Keeping.{narrow, short, Handed, handed, handed-left}
 use Rattle.silk_text.proofs.sheet.read.Statement.{statement}
 use Rattle.silk_text.proofs.sheet.read.Tie as tie
 
@@ -29,8 +28,8 @@ returns-3 c =
     let doubles = c .before .before .before .before .before .before in
     let counts = doubles .before .before .before in
     let told = counts .counts-of .ensures in
-    let left = handing (counts .before .before .before) .left in
-    (left .answers, (rw (told .0) at (doubles .copy-doubles .ensures) ∙ left .colours, rw (told .1) at (c .before .copy-cells .ensures) ∙ left .sheet))
+    let l = handed-left (handing (counts .before .before .before)) (told .0) (told .1) (doubles .copy-doubles .ensures) (c .before .copy-cells .ensures) in
+    (l .answers, (l .colours, l .sheet))
 
 slice-aggregate-read-text : tie.Need-slice-aggregate-read-text
 slice-aggregate-read-text c = search needs
