@@ -1,12 +1,14 @@
 -- A double that is not far from 0 is in range, and stays so when it is multiplied by one that is not far from 0 either; the loop that looks for one that is far. Assumes nothing.
 use Prim.Native.Nat.{ℕ, _+_, _-_, _*_, _%_, _^_, _≤_, _<_}
 use mathlib.Core.Path.{_≡_, refl, sym, ap, _∙_}
+use mathlib.Core.Logic.{⊎-elim}
 use mathlib.Core.Bool.{Bool, true, false, not, _&&_, _||_, cond, false≢true}
 use mathlib.Core.List.{List}
-use native.Mathlib.Nat.{le-trans, le-of-eq, mul-le-mul, mul-le-mul-right, mul-mul-mul-comm, mul-one, mul-pos, add-comm}
+use native.Mathlib.Nat.{le-refl, le-trans, le-of-eq, mul-le-mul, mul-le-mul-right, mul-mul-mul-comm, mul-one, mul-pos, add-comm}
 use native.Mathlib.Decide.{decLt}
+use native.Mathlib.Numerals.{add-one}
 use native.Mathlib.Omega.{arith}
-use borrow.Author.Tests.{ltb-false, lt-ltb}
+use borrow.Author.Tests.{not-false, ltb-false, lt-ltb}
 use lib.Dec.{eqb, ltb}
 use lib.IntN.{ℤ, pos}
 use lib.ListN.{getD}
@@ -14,11 +16,11 @@ use lib.Ieee.{Float, nan, inf, fin, unlike, round, mul, neg, le, lt, eq, up, dow
 use lib.Ieee.Fits.{down-pos}
 use Rattle.base.specs.Places.{any}
 use Rattle.base.specs.Doubles.{_⊗_, decimal}
-use Rattle.base.proofs.Counting.{case, clash, both, left, right, or-left, yes-eqb, any-yes}
+use Rattle.base.proofs.Counting.{case, clash, both, left, right, either, or-left, or-right, not-true, same-test, yes-eqb, any-yes, yes-any, any-no}
 use Rattle.color.specs.Lab.{within}
 use Rattle.color.proofs.Range.{Sized, not-above, round-size}
 use Rattle.rules.specs.Palette.{paletteOf, outOfRange, saturate}
-use Rattle.saturation.specs.Near.{near, AllNear}
+use Rattle.saturation.specs.Near.{near, allNear, surelyInRange}
 use Rattle.saturation.proofs.Tones.{part, vivid, vivid-any}
 
 -- a double that is near a * 2 ^ j is finite and of that size
@@ -83,68 +85,93 @@ none n t f = case (any n t) (λ y. let w = any-yes n t y in clash (w .2) (f (w .
 -- ---- palettes
 
 -- every double of a palette is near a * 2 ^ j, beta is near b * 2 ^ i, and the product of both is not above 1024
-module _ (a j b i : ℕ) (l : a * 2 ^ j ≤ 1024) (N : a * 2 ^ j * (b * 2 ^ i) ≤ 1024) (lab : List Float) (k : ℕ) (all : AllNear (fin false a (pos j)) lab (3 * k)) where
+module _ (a j b i : ℕ) (l : a * 2 ^ j ≤ 1024) (N : a * 2 ^ j * (b * 2 ^ i) ≤ 1024) (lab : List Float) (k : ℕ) (all : allNear (fin false a (pos j)) (paletteOf lab k) ≡ true) where
   -- each double is of that size, and so in range
   held : (p : ℕ) → p < 3 * k → Sized (a * 2 ^ j) (getD lab p nan)
-  held p h = near-sized a j (getD lab p nan) (all .each p h)
+  unfolding allNear
+  held p h = near-sized a j (getD lab p nan) (not-false _ (any-no (3 * k) _ (not-true all) p h))
 
   kept : (p : ℕ) → p < 3 * k → within (getD lab p nan) ≡ true
   kept p h = sized-within (getD lab p nan) (wider (a * 2 ^ j) (getD lab p nan) l (held p h))
 
   -- so no double is out of range, before or after
-  calm-before : outOfRange (paletteOf lab k) ≡ false
+  before : outOfRange (paletteOf lab k) ≡ false
   unfolding outOfRange
-  calm-before = none (3 * k) _ (λ p h. ap not (kept p h))
+  before = none (3 * k) _ (λ p h. ap not (kept p h))
 
   module _ (beta : Float) (small : near (fin false b (pos i)) beta ≡ true) where
-    calm-after : outOfRange (saturate beta (paletteOf lab k)) ≡ false
+    after : outOfRange (saturate beta (paletteOf lab k)) ≡ false
     unfolding vivid part
-    calm-after = vivid-any lab beta k ∙ none (3 * k) (vivid lab beta) (λ p h. ap not (either p h (eqb (p % 3) 0)))
+    after = vivid-any lab beta k ∙ none (3 * k) (vivid lab beta) (λ p h. ap not (toned p h (eqb (p % 3) 0)))
       where
-        either : (p : ℕ) → p < 3 * k → (c : Bool) → within (cond c (getD lab p nan) (getD lab p nan ⊗ beta)) ≡ true
-        either p h true = kept p h
-        either p h false = sized-within (getD lab p nan ⊗ beta) (product (a * 2 ^ j) (b * 2 ^ i) (getD lab p nan) beta N (held p h) (near-sized b i beta small))
+        toned : (p : ℕ) → p < 3 * k → (c : Bool) → within (cond c (getD lab p nan) (getD lab p nan ⊗ beta)) ≡ true
+        toned p h true = kept p h
+        toned p h false = sized-within (getD lab p nan ⊗ beta) (product (a * 2 ^ j) (b * 2 ^ i) (getD lab p nan) beta N (held p h) (near-sized b i beta small))
 
-    pub calm : (outOfRange (paletteOf lab k) ≡ false) × (outOfRange (saturate beta (paletteOf lab k)) ≡ false)
-    calm = (calm-before, calm-after)
+    in-range : (outOfRange (paletteOf lab k) ≡ false) × (outOfRange (saturate beta (paletteOf lab k)) ≡ false)
+    in-range = (before, after)
+
+-- 1 times 1024 and 4 times 256 are 1024
+pub surely : (beta : Float) (lab : List Float) (k : ℕ) → surelyInRange beta (paletteOf lab k) ≡ true
+    → (outOfRange (paletteOf lab k) ≡ false) × (outOfRange (saturate beta (paletteOf lab k)) ≡ false)
+unfolding surelyInRange decimal round
+surely beta lab k e =
+    case (near (fin false 1 (pos 0)) beta)
+    (λ y. in-range 1 10 1 0 (le-refl 1024) (le-refl 1024) lab k (rw y at e) beta y)
+    (λ z. let f = rw z at e in
+    let four = near (fin false 1 (pos 2)) beta in
+    let all = allNear (fin false 1 (pos 8)) (paletteOf lab k) in
+    in-range 1 8 1 2 (omega arith) (le-refl 1024) lab k (right four all f) beta (left four all f))
 
 -- ---- the loop that walks the three thirds of a palette
 
--- of each third the first n doubles are near
-pub record Thirds (reach : Float) (lab : List Float) (k n : ℕ) : Type 0 where
-  pub first : (p : ℕ) → p < n → near reach (getD lab p nan) ≡ true
-  pub second : (p : ℕ) → p < n → near reach (getD lab (k + p) nan) ≡ true
-  pub third : (p : ℕ) → p < n → near reach (getD lab (2 * k + p) nan) ≡ true
-
--- one more place passes
-more : (n : ℕ) (t : ℕ → Bool) → ((p : ℕ) → p < n → t p ≡ true) → t n ≡ true → (p : ℕ) → p < n + 1 → t p ≡ true
-more n t f e p h = go (decLt p n)
-  where
-    go : Dec (p < n) → t p ≡ true
-    go (yes y) = f p y
-    go (no z) = let q : p ≡ n = omega arith in rw q e
-
 module _ (reach : Float) (lab : List Float) (k : ℕ) where
-  pub thirds-start : Thirds reach lab k 0
-  thirds-start = record { first = λ p h. absurd (omega arith); second = λ p h. absurd (omega arith); third = λ p h. absurd (omega arith) }
+  -- the double p is far
+  abbrev far : ℕ → Bool
+  far p = not (near reach (getD lab p nan))
 
-  pub thirds-step : (n : ℕ) {old a b c : Bool} → (old ≡ true → Thirds reach lab k n)
+  -- the double p of one of the thirds is far
+  unfoldable pub farThird : ℕ → Bool
+  farThird p = far (2 * k + p) || (far (k + p) || far p)
+
+  pub thirds-start : true ≡ not (any 0 farThird)
+  unfolding any
+  thirds-start = refl
+
+  pub thirds-step : (n : ℕ) {old a b c : Bool} → old ≡ not (any n farThird)
       → a ≡ near reach (getD lab n nan) → b ≡ near reach (getD lab (k + n) nan) → c ≡ near reach (getD lab (2 * k + n) nan)
-      → (c && (b && (a && old))) ≡ true → Thirds reach lab k (n + 1)
-  thirds-step n {old} {a} {b} {c} f ea eb ec y =
-      let z = right c _ y in
-      let w = right b _ z in
-      let t = f (right a old w) in
-      record {
-        first = more n (λ p. near reach (getD lab p nan)) (t .first) (sym ea ∙ left a old w);
-        second = more n (λ p. near reach (getD lab (k + p) nan)) (t .second) (sym eb ∙ left b _ z);
-        third = more n (λ p. near reach (getD lab (2 * k + p) nan)) (t .third) (sym ec ∙ left c _ y);
-      }
-
-  pub thirds-end : Thirds reach lab k k → AllNear reach lab (3 * k)
-  thirds-end t = record { each = λ p h. go p h (decLt p k) (decLt p (2 * k)) }
+      → (c && (b && (a && old))) ≡ not (any (n + 1) farThird)
+  unfolding any farThird
+  thirds-step n {a} {b} {c} e ea eb ec = rw (add-one, e, sym ea, sym eb, sym ec) (go a b c (any n farThird))
     where
-      go : (p : ℕ) → p < 3 * k → Dec (p < k) → Dec (p < 2 * k) → near reach (getD lab p nan) ≡ true
-      go p h (yes x) d = t .first p x
-      go p h (no x) (yes y) = let q : k + (p - k) ≡ p = omega arith in rw q at (t .second (p - k) (omega arith))
-      go p h (no x) (no y) = let q : 2 * k + (p - 2 * k) ≡ p = omega arith in rw q at (t .third (p - 2 * k) (omega arith))
+      go : (a b c o : Bool) → (c && (b && (a && not o))) ≡ not ((not c || (not b || not a)) || o)
+      go a b false o = refl
+      go a false true o = refl
+      go false true true o = refl
+      go true true true o = refl
+
+  -- a far double of a third is one of the palette, and back
+  there : (p : ℕ) → p < k → farThird p ≡ true → any (3 * k) far ≡ true
+  unfolding farThird
+  there p h y =
+      ⊎-elim (yes-any (3 * k) far (2 * k + p) (omega arith))
+      (λ z. ⊎-elim (yes-any (3 * k) far (k + p) (omega arith)) (yes-any (3 * k) far p (omega arith)) (either _ _ z))
+      (either _ _ y)
+
+  back : (p : ℕ) → p < 3 * k → far p ≡ true → Dec (p < k) → Dec (p < 2 * k) → any k farThird ≡ true
+  unfolding farThird
+  back p h y (yes x) d = yes-any k farThird p x (or-right (far (2 * k + p)) (or-right (far (k + p)) y))
+  back p h y (no x) (yes z) =
+      let q : far (k + (p - k)) ≡ true = ap far (omega arith) ∙ y in
+      yes-any k farThird (p - k) (omega arith) (or-right (far (2 * k + (p - k))) (or-left (far (p - k)) q))
+  back p h y (no x) (no z) =
+      let q : far (2 * k + (p - 2 * k)) ≡ true = ap far (omega arith) ∙ y in
+      yes-any k farThird (p - 2 * k) (omega arith) (or-left _ q)
+
+  pub thirds-end : {r : Bool} → r ≡ not (any k farThird) → r ≡ allNear reach (paletteOf lab k)
+  unfolding allNear
+  thirds-end e =
+      e
+      ∙ ap not
+      (same-test (λ y. let w = any-yes k farThird y in there (w .0) (w .1) (w .2))
+      (λ y. let w = any-yes (3 * k) far y in back (w .0) (w .1) (w .2) (decLt (w .0) k) (decLt (w .0) (2 * k))))

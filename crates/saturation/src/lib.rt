@@ -2,8 +2,8 @@
 pub mod scaling;
 
 use crate::scaling::any_vivid;
-use crate::scaling::calm;
 use crate::scaling::saturate;
+use crate::scaling::surely_in_range;
 use base::Filling;
 use checks::bad_colour;
 use checks::bad_palette;
@@ -39,7 +39,7 @@ pub fn apply_saturation(palette: &mut [f64], k: usize, beta: f64) -> Filling
     if bad_palette(palette, k) {
         return Filling::Refused(4);
     }
-    let quick = calm(palette, k, beta);
+    let quick = surely_in_range(palette, k, beta);
     if bad_colour_unless(quick, palette, k) {
         return Filling::Refused(5);
     }

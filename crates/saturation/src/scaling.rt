@@ -4,17 +4,16 @@ use color::cielab::entry;
 use color::cielab::within;
 ghost use mathlib.Core.Path.{_≡_};
 ghost use Prim.Native.Nat.{_*_, _<_, _≤_};
-ghost use mathlib.Core.Bool.{true, false};
 ghost use lib.Ieee.{nan};
 ghost use lib.ListN.{length, getD, set};
 ghost use Rattle.base.specs.Doubles.{_⊗_};
 ghost use Rattle.rules.specs.Palette.{paletteOf, saturate, outOfRange};
-ghost use Rattle.saturation.specs.Near.{AllNear};
+ghost use Rattle.saturation.specs.Near.{allNear, surelyInRange};
 
 // Whether every double in use is from -reach to reach: each third of them is walked at once.
 fn all_near(palette: &[f64], k: usize, reach: f64) -> bool
     requires { ⌜ (3 * k ≤ length (now palette)) × (k ≤ 256) ⌝ }
-    ensures { λ r. ⌜ (r ≡ true → AllNear reach (now (palette .entry)) (3 * k)) ⌝ }
+    ensures { λ r. ⌜ r ≡ allNear reach (paletteOf (now (palette .entry)) k) ⌝ }
 {
     let least = -reach;
     let mut near = true;
@@ -26,10 +25,10 @@ fn all_near(palette: &[f64], k: usize, reach: f64) -> bool
     near
 }
 
-// Whether no double is out of range and no product can be, since neither beta nor a double is far from 0.
-pub fn calm(palette: &[f64], k: usize, beta: f64) -> bool
+// Whether beta and every double in use are so near 0 that surely no double is out of range and no product can be.
+pub fn surely_in_range(palette: &[f64], k: usize, beta: f64) -> bool
     requires { ⌜ (3 * k ≤ length (now palette)) × (k ≤ 256) ⌝ }
-    ensures { λ r. ⌜ (r ≡ true → (outOfRange (paletteOf (now (palette .entry)) k) ≡ false) × (outOfRange (saturate beta (paletteOf (now (palette .entry)) k)) ≡ false)) ⌝ }
+    ensures { λ r. ⌜ r ≡ surelyInRange beta (paletteOf (now (palette .entry)) k) ⌝ }
 {
     if between(-1.0, 1.0, beta) {
         return all_near(palette, k, 1024.0);
@@ -60,7 +59,7 @@ pub fn too_vivid(palette: &[f64], k: usize, beta: f64) -> bool
     requires { ⌜ (3 * k ≤ length (now palette)) × (k ≤ 256) ⌝ }
     ensures { λ r. ⌜ r ≡ outOfRange (saturate beta (paletteOf (now (palette .entry)) k)) ⌝ }
 {
-    if calm(palette, k, beta) {
+    if surely_in_range(palette, k, beta) {
         return false;
     }
     any_vivid(palette, k, beta)

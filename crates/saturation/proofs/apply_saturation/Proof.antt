@@ -2,6 +2,7 @@
 use mathlib.Core.Path.{sym, _∙_}
 use Rattle.rules.specs.Palette.{paletteOf}
 use Rattle.checks.proofs.Answers.{room, row-four, row-five, row-six, no-row}
+use Rattle.saturation.proofs.Reach.{surely}
 use Rattle.saturation.proofs.Tones.{refuses, saturates}
 use Rattle.rules.specs.Entries.{saturationRefusal}
 use borrow.Author.Needs.{needs}
@@ -18,8 +19,8 @@ returns : tie.Need-returns
 unfolding saturationRefusal
 returns c = refuses _ _ 4 (row-four _ _ (sym (c .before .bad-palette .ensures) ∙ c .if1 .taken))
 
-calm-requires : tie.Need-calm-requires
-calm-requires c κs =
+surely-in-range-requires : tie.Need-surely-in-range-requires
+surely-in-range-requires c κs =
     let e = c .before in
     room (paletteOf _ _) (sym (e .before .bad-palette .ensures) ∙ e .if1 .left)
 
@@ -27,7 +28,7 @@ bad-colour-unless-requires : tie.Need-bad-colour-unless-requires
 bad-colour-unless-requires c κs =
     let e = c .before .before .before in
     let r = room (paletteOf _ _) (sym (e .before .bad-palette .ensures) ∙ e .if1 .left) in
-    (r .0, r .1, λ q. c .before .calm .ensures q .0)
+    (r .0, r .1, λ y. surely _ _ _ (sym (c .before .surely-in-range .ensures) ∙ y) .0)
 
 same-length-2 : tie.Need-same-length-2
 same-length-2 c = search needs
@@ -43,7 +44,7 @@ bad-saturation-requires c κs =
     let q = c .before .before .before .before in
     let e = q .before .before in
     let r = room (paletteOf _ _) (sym (e .before .bad-palette .ensures) ∙ e .if1 .left) in
-    (r .0, r .1, λ h. q .calm .ensures h .1)
+    (r .0, r .1, λ y. surely _ _ _ (sym (q .surely-in-range .ensures) ∙ y) .1)
 
 same-length-3 : tie.Need-same-length-3
 same-length-3 c = search needs
@@ -79,7 +80,7 @@ apply-saturation-spec =
     bad-palette-requires
     same-length
     returns
-    calm-requires
+    surely-in-range-requires
     bad-colour-unless-requires
     same-length-2
     returns-2

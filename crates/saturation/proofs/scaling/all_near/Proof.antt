@@ -1,21 +1,22 @@
--- `saturation::scaling::all_near` meets its contract. The loop: while near is true, the doubles before i of each third are near. Assumes nothing.
+-- `saturation::scaling::all_near` meets its contract. The loop: near tells whether the doubles before i of each third are near. Assumes nothing.
 use Prim.Native.Nat.{_-_, _≤_}
 use mathlib.Core.Path.{_≡_}
-use mathlib.Core.Bool.{true}
+use mathlib.Core.Bool.{not}
 use native.Mathlib.Omega.{arith}
+use Rattle.base.specs.Places.{any}
 use Rattle.saturation.specs.Near.{near}
-use Rattle.saturation.proofs.Reach.{Thirds, thirds-start, thirds-step, thirds-end}
+use Rattle.saturation.proofs.Reach.{farThird, thirds-start, thirds-step, thirds-end}
 use Rattle.saturation.proofs.scaling.all_near.Statement.{statement}
 use Rattle.saturation.proofs.scaling.all_near.Tie as tie
 
 abbrev Inv-loop : tie.InvT-loop
-Inv-loop palette k reach least near₀ i₀ near i = (i ≤ k) × (near ≡ true → Thirds reach palette k i)
+Inv-loop palette k reach least near₀ i₀ near i = (i ≤ k) × (near ≡ not (any i (farThird reach palette k)))
 
 abbrev μ-loop : tie.MeasureT-loop
 μ-loop palette k reach least near₀ i₀ near i = k - i
 
 loop-holds : tie.Need-loop-holds Inv-loop μ-loop
-loop-holds c = (omega arith, λ y. thirds-start _ _ _)
+loop-holds c = (omega arith, thirds-start _ _ _)
 
 mul-between : tie.Need-mul-between Inv-loop μ-loop
 mul-between c = omega arith
@@ -67,10 +68,10 @@ loop-again c =
     (omega arith, thirds-step _ _ _ _ (t .before .before .before .loop .inv .1) (t .between .ensures) (u .between2 .ensures) (c .between3 .ensures))
 
 returns : tie.Need-returns Inv-loop μ-loop
-returns c y =
+returns c =
     let k = c .before .before .before .args .k in
     let e : c .before .loop .i ≡ k = omega arith in
-    thirds-end _ _ _ (rw e at (c .before .loop .inv .1 y))
+    thirds-end _ _ _ (rw e at (c .before .loop .inv .1))
 
 pub all-near-spec : {M : Type 1} → statement M
 all-near-spec =
