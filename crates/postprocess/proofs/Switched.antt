@@ -77,23 +77,23 @@ module _ (l : List ℤ) (h w : ℕ) where
 
 -- ---- the outline
 
-module _ (fixed : Bool) (config : PostConfig) (l : List ℤ) (h w : ℕ) (palette : Palette) (allowed : Bool) where
-  -- facts, cells and doubles are those of the outline, or of none, for every margin that allows padding so
+module _ (fixed : Bool) (config : PostConfig) (l : List ℤ) (h w : ℕ) (palette : Palette) (margin : ℤ) where
+  -- facts, cells and doubles are those of the outline, or of none
   abbrev Line : Facts → List ℤ → List Float → Type 0
-  Line facts new lab = (margin : ℤ) → allowed ≡ padAllowed config margin → Drew (outlineIf fixed config margin (sheetOf l h w) palette) l facts new lab
+  Line facts new lab = Drew (outlineIf fixed config margin (sheetOf l h w) palette) l facts new lab
 
   -- none is asked for
   pub unlined : {facts : Facts} → h * w ≤ length l → asked (config .outline) ≡ false
       → facts ≡ record { height = h; width = w; colours = palette .count; «outline_index» = Nothing; «outline_clipped» = false } → Line facts l (palette .lab)
   unfolding outlineIf factsOf sheetOf
-  unlined fits z e margin told = rw z (record { told = e; cells = stands-start l h w fits .is; doubles = refl })
+  unlined fits z e = rw z (record { told = e; cells = stands-start l h w fits .is; doubles = refl })
 
   -- the call of an outline that is asked for, and that no row refuses
-  module _ (work : ℕ) (ready : outlineRefusal l h w palette (config .outline) allowed fixed work ≡ none) {answer : Outlining}
-      (is : answer ≡ outlineAnswer l h w palette (config .outline) allowed fixed work) where
-    answered : answer ≡ Drawn (let o = outline allowed fixed (config .outline) (sheetOf l h w) palette in factsOf (o .sheet) (o .palette) (o .index) (o .clipped))
+  module _ (work : ℕ) (ready : outlineRefusal l h w palette (config .outline) (padAllowed config margin) fixed work ≡ none)
+      {allowed : Bool} (told : allowed ≡ padAllowed config margin) {answer : Outlining} (is : answer ≡ outlineAnswer l h w palette (config .outline) allowed fixed work) where
+    answered : answer ≡ Drawn (let o = outline (padAllowed config margin) fixed (config .outline) (sheetOf l h w) palette in factsOf (o .sheet) (o .palette) (o .index) (o .clipped))
     unfolding outlineAnswer unless
-    answered = rw ready at is
+    answered = rw (told, ready) at is
 
     pub not-refused : (n : ℕ) → answer ≡ Refused n → ⊥
     not-refused n e = let q = sym answered ∙ e in let z : _≡_ {A = ℕ} 0 1 = cc in omega arith
@@ -101,6 +101,6 @@ module _ (fixed : Bool) (config : PostConfig) (l : List ℤ) (h w : ℕ) (palett
     pub lines : {facts : Facts} {new : List ℤ} {lab : List Float} → asked (config .outline) ≡ true → answer ≡ Drawn facts
         → new ≡ outlineCells l h w palette (config .outline) allowed fixed work → lab ≡ outlinePalette l h w palette (config .outline) allowed fixed work → Line facts new lab
     unfolding outlineCells outlinePalette unless outlineIf
-    lines y e f g margin told =
+    lines y e f g =
         let q = sym answered ∙ e in
-        rw (y, sym told) (record { told = cc; cells = rw ready at f; doubles = rw ready at g })
+        rw y (record { told = cc; cells = rw (told, ready) at f; doubles = rw (told, ready) at g })

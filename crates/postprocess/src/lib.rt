@@ -10,7 +10,6 @@ use base::Filling;
 use rules::PostConfig;
 use rules::Processing;
 use run_checks::kept;
-use run_checks::pad_allowed;
 use run_checks::run_refusal;
 ghost use mathlib.Core.Path.{_≡_};
 ghost use lib.ListN.{length};
@@ -55,8 +54,8 @@ pub fn run(
     tone_unless(kept(saturated, fixed_palette), palette, k, config);
     let passes = tidy_if(cells, h, w, palette, k, config, ORPHAN_MAX_PASSES, work);
     trim_if(cells, h, w, config, work);
-    let pad = pad_allowed(config, outline_margin);
-    let facts = outline_if(cells, h, w, palette, k, config, fixed_palette, pad, work);
+    let margin = outline_margin;
+    let facts = outline_if(cells, h, w, palette, k, config, fixed_palette, margin, work);
     let again = tidy_again(cells, facts, palette, config, work);
     Processing::Processed(facts, passes, again)
 }

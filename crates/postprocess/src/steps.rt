@@ -7,12 +7,12 @@ use rules::Facts;
 use rules::LineIndex;
 use rules::Outlining;
 use rules::PostConfig;
+use run_checks::pad_allowed;
 use saturation::scaling::saturate;
 ghost use mathlib.Core.Path.{_≡_};
 ghost use mathlib.Core.Bool.{true, false, cond, _&&_};
 ghost use mathlib.Core.Option.{none};
 ghost use Prim.Native.Nat.{_*_, _≤_};
-ghost use lib.IntN.{ℤ};
 ghost use lib.ListN.{length};
 ghost use Rattle.rules.specs.Sheet.{sheetOf, over};
 ghost use Rattle.rules.specs.Palette.{paletteOf};
@@ -99,17 +99,18 @@ pub fn outline_if(
     k: usize,
     config: PostConfig,
     fixed_palette: bool,
-    allow_pad: bool,
+    margin: i32,
     work: &mut [u32],
 ) -> Facts
     requires { ⌜ h * w ≤ length (now cells) ⌝ }
-    requires { ⌜ (asked (config .outline) ≡ true → outlineRefusal (now cells) h w (paletteOf (now palette) k) (config .outline) «allow_pad» «fixed_palette» (length (now work)) ≡ none) ⌝ }
-    ensures { λ r. ⌜ ((margin : ℤ) → «allow_pad» ≡ padAllowed config margin → Drew (outlineIf «fixed_palette» config margin (sheetOf (now (cells .entry)) h w) (paletteOf (now (palette .entry)) k)) (now (cells .entry)) r (now (cells .exit)) (now (palette .exit))) ⌝ }
+    requires { ⌜ (asked (config .outline) ≡ true → outlineRefusal (now cells) h w (paletteOf (now palette) k) (config .outline) (padAllowed config margin) «fixed_palette» (length (now work)) ≡ none) ⌝ }
+    ensures { λ r. ⌜ Drew (outlineIf «fixed_palette» config margin (sheetOf (now (cells .entry)) h w) (paletteOf (now (palette .entry)) k)) (now (cells .entry)) r (now (cells .exit)) (now (palette .exit)) ⌝ }
 {
     let outline = config.outline;
     if !asked(outline) {
         return plain(h, w, k);
     }
+    let allow_pad = pad_allowed(config, margin);
     let Outlining::Drawn(facts) = add_outline(
         cells,
         h,

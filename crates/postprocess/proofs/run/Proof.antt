@@ -2,13 +2,17 @@
 use mathlib.Core.Path.{_≡_, sym, ap, _∙_}
 use mathlib.Core.Option.{none}
 use lib.ListN.{length}
+use mir.Syntax.{w32}
+use mir.Val.{ofZ, toZ}
 use mir.Facts.{toZ-ofZ}
 use borrow.Author.Needs.{needs}
 use Rattle.base.specs.Refusals.{filling}
+use Rattle.rules.specs.Sheet.{sheetOf}
 use Rattle.rules.specs.Palette.{paletteOf}
-use Rattle.rules.specs.Run.{padAllowed}
+use Rattle.rules.specs.Run.{padAllowed, outlineIf}
+use Rattle.outline.specs.Drawing.{Drew}
 use Rattle.checks.proofs.Rows.{refused-by, passed}
-use Rattle.run_checks.proofs.Refusing.{Call, sheet, allowed, judged}
+use Rattle.run_checks.proofs.Refusing.{Call, sheet, judged}
 use Rattle.postprocess.proofs.Holding.{Holds, sized}
 use Rattle.postprocess.proofs.Chain.{Held, first, cut, line, met-refused, in-doubles, toned-holds, first-fit, first-passes, first-holds, trim-room, cut-holds, never-refused, line-told, line-holds, second-fit, same-doubles, met-processed}
 use Rattle.postprocess.proofs.run.Statement.{statement}
@@ -34,8 +38,12 @@ call c =
       work = length (a .work .now);
     }
 
+-- a call is handed the margin by its bits
+margin-is : (c : tie.After-run-refusal) → toZ w32 (ofZ w32 (call c .margin)) ≡ call c .margin
+margin-is c = toZ-ofZ (start c .fits .outline-margin)
+
 told : (c : tie.After-run-refusal) → filling (judged (call c)) ≡ c .run-refusal .result
-told c = sym (rw (toZ-ofZ (start c .fits .outline-margin)) at (c .run-refusal .ensures))
+told c = sym (rw (margin-is c) at (c .run-refusal .ensures))
 
 -- ---- a call that no row refuses
 
@@ -53,11 +61,8 @@ tone-of c = c .before .before .before .before .before .before
 abbrev tidy-of : tie.After-trim-if → tie.After-tidy-if
 tidy-of c = c .before .before .before .before .before .before
 
-abbrev trim-of : tie.After-pad-allowed → tie.After-trim-if
-trim-of c = c .before .before .before .before
-
-abbrev pad-of : tie.After-outline-if → tie.After-pad-allowed
-pad-of c = c .before .before .before .before
+abbrev trim-of : tie.After-outline-if → tie.After-trim-if
+trim-of c = c .before .before .before .before .before .before .before
 
 abbrev at-tone : tie.After-tone-unless → tie.After-enum-told
 at-tone c = c .before .before .before
@@ -68,11 +73,8 @@ at-tidy c = at-tone (tone-of c)
 abbrev at-trim : tie.After-trim-if → tie.After-enum-told
 at-trim c = at-tidy (tidy-of c)
 
-abbrev at-pad : tie.After-pad-allowed → tie.After-enum-told
-at-pad c = at-trim (trim-of c)
-
 abbrev at-outline : tie.After-outline-if → tie.After-enum-told
-at-outline c = at-pad (pad-of c)
+at-outline c = at-trim (trim-of c)
 
 -- ---- what the lists hold after each step
 
@@ -85,17 +87,18 @@ tidied c = first-holds (accepted (at-tidy c)) (ok (at-tidy c)) (toned (tone-of c
 trimmed : (c : tie.After-trim-if) → Held (accepted (at-trim c)) (cut (accepted (at-trim c))) (c .trim-if .last .0) (tone-of (tidy-of c) .tone-unless .last .1 .0)
 trimmed c = cut-holds (accepted (at-trim c)) (ok (at-trim c)) (tidied (tidy-of c)) (c .trim-if .ensures)
 
-padded : (c : tie.After-pad-allowed) → c .pad-allowed .result ≡ allowed (accepted (at-pad c))
-padded c =
-    let s = start (at-pad c .before .before) in
-    c .pad-allowed .ensures ∙ ap (padAllowed (s .args .config)) (toZ-ofZ (s .fits .outline-margin))
+drew : (c : tie.After-outline-if)
+    → let x = accepted (at-outline c) in
+    let t = trim-of c in
+    Drew (outlineIf (x .fixed) (x .config) (x .margin) (sheetOf (t .trim-if .last .0) (x .h) (x .w)) (paletteOf (tone-of (tidy-of t) .tone-unless .last .1 .0) (x .palette .count)))
+    (t .trim-if .last .0) (c .outline-if .result) (c .outline-if .last .0) (c .outline-if .last .1 .1 .1 .0)
+drew c = rw (margin-is (at-outline c .before .before)) at (c .outline-if .ensures)
 
 outlined : (c : tie.After-outline-if)
     → Holds (accepted (at-outline c) .cells) (line (accepted (at-outline c)) .sheet) (line (accepted (at-outline c)) .palette) (c .outline-if .last .0) (c .outline-if .result .height)
     (c .outline-if .result .width) (c .outline-if .last .1 .1 .1 .0) (c .outline-if .result .colours)
 outlined c =
-    let x = accepted (at-outline c) in
-    line-holds x (ok (at-outline c)) (trimmed (trim-of (pad-of c))) (c .outline-if .ensures (x .margin) (padded (pad-of c)))
+    line-holds (accepted (at-outline c)) (ok (at-outline c)) (trimmed (trim-of c)) (drew c)
 
 -- ---- the work area keeps its length
 
@@ -144,14 +147,10 @@ trim-if-requires c κs =
     let t = c .before .before .before .before .before in
     trim-room (accepted (at-tidy t)) (ok (at-tidy t)) (tidied t) (tidied-room t)
 
-pad-allowed-requires : tie.Need-pad-allowed-requires
-pad-allowed-requires c κs = search needs
-
 outline-if-requires : tie.Need-outline-if-requires
 outline-if-requires c κs =
-    let p = c .before .before .before in
-    let t = trim-of p in
-    (sized (trimmed t), never-refused (accepted (at-trim t)) (ok (at-trim t)) (trimmed t) (padded p) (trimmed-room t))
+    let t = c .before .before .before .before .before .before in
+    (sized (trimmed t), never-refused (accepted (at-trim t)) (ok (at-trim t)) (trimmed t) (ap (padAllowed _) (margin-is (at-trim t .before .before))) (trimmed-room t))
 
 tidy-again-requires : tie.Need-tidy-again-requires
 tidy-again-requires c κs =
@@ -173,12 +172,11 @@ returns-2 : tie.Need-returns-2
 returns-2 c =
     let r = c .before .before .before in
     let t = r .before .before .before .before .before .before .before .before .before in
-    let p = pad-of t in
-    let f = tidy-of (trim-of p) in
+    let f = tidy-of (trim-of t) in
     let x = accepted (at-outline t) in
     let o = ok (at-outline t) in
     met-processed x o (outlined t) (first-passes x o (toned (tone-of f)) (f .tidy-if .ensures .0))
-    (line-told x o (trimmed (trim-of p)) (t .outline-if .ensures (x .margin) (padded p))) (r .tidy-again .ensures .0) (r .tidy-again .ensures .1)
+    (line-told x o (trimmed (trim-of t)) (drew t)) (r .tidy-again .ensures .0) (r .tidy-again .ensures .1)
 
 pub run-spec : {M : Type 1} → statement M
 run-spec =
@@ -194,7 +192,6 @@ run-spec =
     tone-unless-requires
     tidy-if-requires
     trim-if-requires
-    pad-allowed-requires
     outline-if-requires
     tidy-again-requires
     same-length-3
