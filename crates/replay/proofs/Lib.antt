@@ -1,4 +1,5 @@
 pub mod Bits
 pub mod Filling
 pub mod Agreeing
+pub mod Texts
 pub mod Verdicts

@@ -3,8 +3,10 @@ ghost use mathlib.Core.Path.{_≡_};
 ghost use Prim.Native.Nat.{_≤_, min};
 ghost use lib.ListN.{length, getD};
 ghost use Rattle.replay.specs.Lists.{beyond, storedAt, workAt, afterAt, element, elementAfter};
+ghost use Rattle.replay.specs.Texts.{digitOf, oneByte, firstBytes};
 
-const TEXT: usize = 131072;
+// Room for the longest text that is stored.
+pub const TEXT: usize = 131072;
 
 // 2 ^ 60
 const TOP: u64 = 0x1000_0000_0000_0000;
@@ -19,12 +21,16 @@ pub fn least(a: usize, b: usize) -> usize
     if a < b { a } else { b }
 }
 
-fn wide(c: u8) -> u64 {
+fn wide(c: u8) -> u64
+    ensures { λ r. ⌜ r ≡ c ⌝ }
+{
     c as u64
 }
 
 // The value of a hex digit in lower case, 16 for any other byte.
-fn digit(c: u8) -> u64 {
+fn digit(c: u8) -> u64
+    ensures { λ r. ⌜ r ≡ digitOf c ⌝ }
+{
     match c {
         b'0'..=b'9' => wide(c - b'0'),
         b'a'..=b'f' => wide(c - b'a' + 10),
@@ -40,7 +46,9 @@ struct Reading {
 }
 
 // One byte more of the text: a digit, or the end of a number.
-fn taken(numbers: &mut [u64], r: Reading, c: u8) -> Reading {
+fn taken(numbers: &mut [u64], r: Reading, c: u8) -> Reading
+    ensures { λ next. ⌜ record { list = now (numbers .exit); reading = next } ≡ oneByte (record { list = now (numbers .entry); reading = r }) c ⌝ }
+{
     let count = r.count;
     let d = digit(c);
     if d < 16 {
@@ -57,39 +65,53 @@ fn taken(numbers: &mut [u64], r: Reading, c: u8) -> Reading {
     if count >= numbers.len() {
         return r;
     }
+    let next = count + 1;
     numbers[count] = r.value;
     Reading {
-        count: count + 1,
+        count: next,
         value: 0,
         begun: false,
     }
 }
 
-// Puts the numbers of a text into a list, and answers how many there are.
-fn parsed(text: &[u8], numbers: &mut [u64]) -> usize {
+// Puts the numbers of the first n bytes of a text over the front of a list, and answers how many were put.
+fn parsed(text: &[u8], n: usize, numbers: &mut [u64]) -> usize
+    requires { ⌜ n ≤ length (now text) ⌝ }
+    ensures { λ r. ⌜ r ≡ firstBytes (now (numbers .entry)) (now (text .entry)) n .reading .count ⌝ }
+    ensures { λ r. ⌜ now (numbers .exit) ≡ firstBytes (now (numbers .entry)) (now (text .entry)) n .list ⌝ }
+{
     let mut r = Reading {
         count: 0,
         value: 0,
         begun: false,
     };
     let mut i = 0;
-    while i < text.len() {
+    while i < n {
         r = taken(numbers, r, text[i]);
         i += 1;
     }
     r.count
 }
 
-// Puts the numbers of a file into a list, and answers how many there are. A file that is missing has none.
-pub fn read(name: &[u8], numbers: &mut [u64]) -> usize
-    ensures { λ r. ⌜ r ≤ length (now (numbers .exit)) ⌝ }
+// What was read of a file: how many bytes of it stand at the front of the text, and how many numbers were put.
+pub struct Loaded {
+    pub bytes: usize,
+    pub count: usize,
+}
+
+// Reads a file to the front of a text, and puts the numbers of what was read over the front of a list. A file that is missing has none.
+// Which bytes are read, and how many, no contract of the system tells.
+pub fn read(name: &[u8], text: &mut [u8], numbers: &mut [u64]) -> Loaded
+    ensures { λ r. ⌜ r .bytes ≤ length (now (text .exit)) ⌝ }
+    ensures { λ r. ⌜ r .count ≡ firstBytes (now (numbers .entry)) (now (text .exit)) (r .bytes) .reading .count ⌝ }
+    ensures { λ r. ⌜ now (numbers .exit) ≡ firstBytes (now (numbers .entry)) (now (text .exit)) (r .bytes) .list ⌝ }
+    ensures { λ r. ⌜ r .count ≤ length (now (numbers .exit)) ⌝ }
 {
-    let mut text = [0u8; TEXT];
     let file = os::open_read(name);
-    let n = io::read_full(file, &mut text);
+    let bytes = io::read_full(file, text);
     libc::close(file);
-    let count = parsed(&text[..n], numbers);
-    least(count, numbers.len())
+    let count = parsed(text, bytes, numbers);
+    Loaded { bytes, count }
 }
 
 // The number at a place, 0 past the end.

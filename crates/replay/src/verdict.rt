@@ -121,12 +121,15 @@ pub fn case_told(name: &[u8], case: u64, v: Verdict, end: usize) -> u64
     1
 }
 
-// Prints how many cases a file has, and how many of them differ.
-pub fn total_told(name: &[u8], cases: u64, differing: u64) {
+// Prints how many cases a file has, and how many of them differ. The answer is whether none does.
+pub fn total_told(name: &[u8], cases: u64, differing: u64) -> bool
+    ensures { λ r. ⌜ r ≡ eqb differing 0 ⌝ }
+{
     io::write_all(STDOUT_FILENO, name);
     io::write_all(STDOUT_FILENO, b": ");
     io::print_decimal(STDOUT_FILENO, cases);
     io::write_all(STDOUT_FILENO, b" cases, ");
     io::print_decimal(STDOUT_FILENO, differing);
     io::write_all(STDOUT_FILENO, b" differ\n");
+    differing == 0
 }

@@ -1,19 +1,22 @@
--- `parsed` is safe and ends. The list keeps its length.
-use Prim.Native.Nat.{_-_}
-use mathlib.Core.Path.{_≡_}
+-- `parsed` meets its contract. The loop: the first i bytes are read. Assumes nothing.
+use Prim.Native.Nat.{_-_, _≤_}
+use mathlib.Core.Path.{_≡_, ap, _∙_}
+use native.Mathlib.Omega.{arith}
 use lib.ListN.{length}
 use borrow.Author.Needs.{needs}
+use Rattle.replay.specs.Texts.{Parsing, firstBytes}
+use Rattle.replay.proofs.Texts.{bytes-start, bytes-step, bytes-within}
 use Rattle.replay.proofs.stream.parsed.Statement.{statement}
 use Rattle.replay.proofs.stream.parsed.Tie as tie
 
 abbrev Inv-loop : tie.InvT-loop
-Inv-loop text numbers₀ r₀ i₀ numbers r i = length numbers ≡ length numbers₀
+Inv-loop text n numbers₀ r₀ i₀ numbers r i = (i ≤ n) × (_≡_ {A = Parsing} (record { list = numbers; reading = r }) (firstBytes numbers₀ text i))
 
 abbrev μ-loop : tie.MeasureT-loop
-μ-loop text numbers₀ r₀ i₀ numbers r i = length text - i
+μ-loop text n numbers₀ r₀ i₀ numbers r i = n - i
 
 loop-holds : tie.Need-loop-holds Inv-loop μ-loop
-loop-holds c = search needs
+loop-holds c = (omega arith, bytes-start _ _)
 
 shared-slice-read-taken : tie.Need-shared-slice-read-taken Inv-loop μ-loop
 shared-slice-read-taken c = search needs
@@ -28,13 +31,18 @@ loop-less : tie.Need-loop-less Inv-loop μ-loop
 loop-less c = search needs
 
 loop-again : tie.Need-loop-again Inv-loop μ-loop
-loop-again c = search needs
+loop-again c =
+    let t = c .before .before in
+    (omega arith, bytes-step _ _ _ (t .before .before .before .before .loop .inv .1) (t .taken .ensures))
 
 same-length : tie.Need-same-length Inv-loop μ-loop
-same-length c = search needs
+same-length c = ap (λ (p : Parsing). length (p .list)) (c .before .loop .inv .1) ∙ bytes-within _ _ _ .size
 
 returns : tie.Need-returns Inv-loop μ-loop
-returns c = search needs
+returns c =
+    let e : c .before .loop .i ≡ c .before .before .before .before .args .n = omega arith in
+    let q = rw e at (c .before .loop .inv .1) in
+    (ap (λ (p : Parsing). p .reading .count) q, ap (λ (p : Parsing). p .list) q)
 
 pub parsed-spec : {M : Type 1} → statement M
 parsed-spec =
