@@ -133,10 +133,12 @@ fn case(entry: u64, numbers: &[u64], at: usize) -> Verdict {
     }
 }
 
-// Replays all cases of a file.
-fn replayed(entry: u64, name: &[u8]) {
+// Replays all cases of a file. The answer is whether none differs.
+fn replayed(entry: u64, name: &[u8]) -> bool {
+    let mut text = [0u8; replay::TEXT];
     let mut numbers = [0u64; 32768];
-    let count = replay::read(name, &mut numbers);
+    let loaded = replay::read(name, &mut text, &mut numbers);
+    let count = loaded.count;
     let mut cases: u64 = 0;
     let mut differing: u64 = 0;
     let mut at = 0;
@@ -147,7 +149,7 @@ fn replayed(entry: u64, name: &[u8]) {
         cases += 1;
         at = end;
     }
-    replay::total_told(name, cases, differing);
+    replay::total_told(name, cases, differing)
 }
 
 fn main() {

@@ -196,8 +196,8 @@ fn case(cases: &[u8; CASES], at: usize) -> Replayed
     }
 }
 
-// Replays the cases that the first bytes of the file have.
-fn replay_all(cases: &[u8; CASES], count: usize)
+// Replays the cases that the first bytes of the file have. The answer is whether none differs.
+fn replay_all(cases: &[u8; CASES], count: usize) -> bool
     requires { ⌜ count ≤ 262144 ⌝ }
 {
     let mut number: u64 = 0;
@@ -209,7 +209,7 @@ fn replay_all(cases: &[u8; CASES], count: usize)
         number += 1;
         at = c.next;
     }
-    replay::total_told(b"silk_cases.txt", number, differing);
+    replay::total_told(b"silk_cases.txt", number, differing)
 }
 
 // Replays the file of cases.

@@ -13,6 +13,9 @@ abbrev μ-loop : tie.MeasureT-loop
 slice-aggregate-read : tie.Need-slice-aggregate-read Inv-loop μ-loop
 slice-aggregate-read c = search needs
 
+slice-aggregate-read-2 : tie.Need-slice-aggregate-read-2 Inv-loop μ-loop
+slice-aggregate-read-2 c = search needs
+
 read-requires : tie.Need-read-requires Inv-loop μ-loop
 read-requires c κs = search needs
 
@@ -62,6 +65,7 @@ replayed-spec =
     Inv-loop
     μ-loop
     slice-aggregate-read
+    slice-aggregate-read-2
     read-requires
     loop-holds
     slice-aggregate-case-end
