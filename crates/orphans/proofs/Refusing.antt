@@ -22,10 +22,10 @@ use Rattle.rules.specs.Regions.{at}
 use Rattle.rules.specs.Palette.{Palette, paletteOf, outOfRange, between}
 use Rattle.rules.specs.Sheet.{area, sheetOf, over}
 use Rattle.rules.specs.Rows.{tooLarge, tooShort, cramped, badPalette, badColour, badSetting, badIndex}
-use Rattle.rules.specs.Run.{Limits, Tidied, tidy}
+use Rattle.rules.specs.Run.{Limits, limitsAt, Tidied, tidy}
 use Rattle.rules.specs.Entries.{orphansRefusal, orphansAnswer, orphansCells}
 use Rattle.checks.proofs.Rows.{not-large, good-palette}
-use Rattle.orphans.specs.Entry.{limitsAt, Fit}
+use Rattle.orphans.specs.Entry.{Fit}
 
 -- a test of the first n cells reads the front of the list alone
 pub in-front : (n k : ℕ) (cells : List ℤ) → any n (λ p. leZ (pos k) (at cells p)) ≡ any n (λ p. leZ (pos k) (at (take n cells) p))

@@ -19,7 +19,7 @@ use Rattle.rules.specs.Pass.{Rule, State, pass, repaints, moves, fates, fresh, 
 use Rattle.rules.specs.Palette.{paletteOf, colour}
 use Rattle.rules.specs.Sheet.{area, sheetOf, over}
 use Rattle.rules.specs.Rows.{badIndex}
-use Rattle.rules.specs.Run.{ruleOn, Tidied, tidy}
+use Rattle.rules.specs.Run.{limitsAt, ruleOn, Tidied, tidy}
 use Rattle.rules.proofs.Passes.{pass-length, repainted, unpainted-kept}
 use Rattle.rules.proofs.Runs.{clean-go, clean-stop, run-length}
 use Rattle.rules.proofs.More.{pass-opaque, clean-opaque}
@@ -32,7 +32,7 @@ use Rattle.grid.proofs.Planes.{Painted, cells-paint, painted-alike}
 use Rattle.verdicts.specs.Choice.{apart}
 use Rattle.verdicts.specs.Judging.{ruleOf, stateOf, Indexed}
 use Rattle.orphans.specs.Passing.{CleanedTo}
-use Rattle.orphans.specs.Entry.{limitsAt, Fit}
+use Rattle.orphans.specs.Entry.{Fit}
 use Rattle.orphans.proofs.Alike.{Same, clean-alike}
 
 -- ---- transparent cells

@@ -8,12 +8,7 @@ use lib.IntN.{ℤ}
 use lib.ListN.{length}
 use Rattle.rules.specs.Palette.{paletteOf}
 use Rattle.rules.specs.Rows.{badIndex}
-use Rattle.rules.specs.Run.{Limits}
 use Rattle.rules.specs.Sheet.{sheetOf}
-
--- the limits of a call
-abbrev pub limitsAt : ℤ → Float → Limits
-limitsAt region colour = record { region = region; colour = colour }
 
 -- a sheet of at most 514 rows and columns in a list that is long enough, eight planes for it, and a palette; if regions can be small, every cell names an entry
 pub record Fit (cells : List ℤ) (h w : ℕ) (palette : List Float) (k : ℕ) (region : ℤ) (work : ℕ) : Type 0 where

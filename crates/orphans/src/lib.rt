@@ -20,12 +20,12 @@ ghost use lib.ListN.{length};
 ghost use Rattle.rules.specs.Entries.{orphansAnswer, orphansCells};
 ghost use Rattle.rules.specs.Pass.{fresh, clean};
 ghost use Rattle.rules.specs.Palette.{paletteOf};
-ghost use Rattle.rules.specs.Run.{tidy};
+ghost use Rattle.rules.specs.Run.{limitsAt, tidy};
 ghost use Rattle.rules.specs.Sheet.{sheetOf, over};
 ghost use Rattle.grid.specs.Planes.{cellsOf};
 ghost use Rattle.grid.specs.Filling.{Sized};
 ghost use Rattle.verdicts.specs.Judging.{ruleOf, Indexed};
-ghost use Rattle.orphans.specs.Entry.{Fit, limitsAt};
+ghost use Rattle.orphans.specs.Entry.{Fit};
 ghost use Rattle.orphans.specs.Passing.{CleanedTo};
 
 // Cleaning of the sheet in plane 0 with at most `max_passes` passes; one that repaints nothing is the last. The count of those that repaint.

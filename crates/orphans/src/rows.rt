@@ -16,7 +16,8 @@ ghost use Rattle.base.specs.Refusals.{filling};
 ghost use Rattle.rules.specs.Regions.{at};
 ghost use Rattle.rules.specs.Entries.{orphansRefusal};
 ghost use Rattle.rules.specs.Palette.{paletteOf, between};
-ghost use Rattle.orphans.specs.Entry.{Fit, limitsAt};
+ghost use Rattle.orphans.specs.Entry.{Fit};
+ghost use Rattle.rules.specs.Run.{limitsAt};
 
 // Row 6: the colour limit is NaN or out of range, or there are too many passes.
 fn bad_limits(max_delta: f64, max_passes: u32) -> bool

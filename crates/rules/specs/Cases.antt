@@ -13,7 +13,7 @@ use Rattle.rules.specs.Sheet.{Sheet}
 use Rattle.rules.specs.Palette.{Palette}
 use Rattle.rules.specs.Corners.{trim}
 use Rattle.rules.specs.Outline.{outline}
-use Rattle.rules.specs.Run.{Limits, tidy}
+use Rattle.rules.specs.Run.{Limits, limitsAt, tidy}
 
 -- a call of a rule
 pub data Call : Type 0 where
@@ -55,7 +55,7 @@ cleanedTo cells n = cleaned (map pos cells) n
 
 -- a region limit and a colour limit
 abbrev within : ℕ → ℕ → Limits
-within region colour = record { region = pos region; colour = whole colour }
+within region colour = limitsAt (pos region) (whole colour)
 
 -- a palette of whole numbers, three for each entry
 abbrev colours : ℕ → List ℕ → Palette

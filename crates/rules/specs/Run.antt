@@ -22,6 +22,10 @@ pub record Limits : Type 0 where
   pub region : ℤ
   pub colour : Float
 
+-- both limits
+abbrev pub limitsAt : ℤ → Float → Limits
+limitsAt region colour = record { region = region; colour = colour }
+
 -- the pass rule on a grid: eight neighbours, distances of palette entries, every index may be decided
 unfoldable pub ruleOn : ℕ → ℕ → Palette → Limits → Rule
 ruleOn n w palette limits =
@@ -53,7 +57,7 @@ tidyIf on k palette limits s = cond on (tidy k palette limits s) (record { sheet
 
 -- the limits in the settings
 unfoldable pub limitsOf : PostConfig → Limits
-limitsOf config = record { region = config .«orphan_min_region»; colour = config .«orphan_max_delta» }
+limitsOf config = limitsAt (config .«orphan_min_region») (config .«orphan_max_delta»)
 
 -- the palette, saturated if it is neither fixed nor saturated already
 unfoldable pub toned : Bool → PostConfig → Palette → Palette

@@ -19,7 +19,7 @@ ghost use Rattle.hex.specs.Hex.{hexToRgb8};
 ghost use Rattle.rules.specs.Palette.{paletteOf};
 ghost use Rattle.rules.specs.Masks.{isSet, regionsAnswer, regionsLabels, maskAnswer, maskLabels, dilationAnswer, dilationOut};
 ghost use Rattle.rules.specs.Entries.{orphansAnswer, orphansCells, jaggiesAnswer, jaggiesCells, outlineAnswer, outlineCells, outlinePalette, saturationAnswer, saturationPalette, runAnswer, runCells, runPalette};
-ghost use Rattle.orphans.specs.Entry.{limitsAt};
+ghost use Rattle.rules.specs.Run.{limitsAt};
 ghost use Rattle.silk_c.specs.Arguments.{outlineOf, betaOf, configOf};
 ghost use Rattle.told.specs.Outcomes.{refused, code, received, heard, done, labelled, cleaned, outlined, processed, coloured};
 

@@ -9,8 +9,8 @@ use borrow.Author.Needs.{needs}
 use borrow.Author.Tests.{not-true, not-false}
 use Rattle.rules.specs.Palette.{paletteOf}
 use Rattle.rules.specs.Sheet.{sheetOf, over}
-use Rattle.rules.specs.Run.{tidy, limitsOf}
-use Rattle.orphans.specs.Entry.{Fit, limitsAt}
+use Rattle.rules.specs.Run.{limitsAt, tidy, limitsOf}
+use Rattle.orphans.specs.Entry.{Fit}
 use Rattle.postprocess.proofs.Switched.{tidies, untidied}
 use Rattle.postprocess.proofs.steps.tidy_if.Statement.{statement}
 use Rattle.postprocess.proofs.steps.tidy_if.Tie as tie
