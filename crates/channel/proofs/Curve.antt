@@ -1,5 +1,5 @@
 -- The fractions of the two tables are those of the curve of IEC 61966-2-1, at every byte. Assumes nothing.
-use Prim.Native.Nat.{ℕ, _+_, _*_, _^_, _≤_, _<_}
+use Prim.Native.Nat.{ℕ, _*_, _^_, _≤_, _<_}
 use mathlib.Core.Path.{_≡_, sym, ap, _∙_}
 use mathlib.Core.Bool.{true, false}
 use native.Mathlib.Nat.{pow-le-pow-left, mul-le-mul-right, lt-of-lt-of-le, not-le-of-lt}

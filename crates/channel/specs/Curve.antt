@@ -1,7 +1,7 @@
 -- The curve of IEC 61966-2-1 between a channel c and its linear value l, both from 0 to 1, in fractions of whole numbers. Definitions only. Assumes nothing.
 use Prim.Native.Nat.{ℕ, _+_, _-_, _*_, _^_, _≤_, _<_}
 use mathlib.Core.Path.{_≡_}
-use mathlib.Core.Bool.{Bool, true, false, cond}
+use mathlib.Core.Bool.{Bool, cond}
 use lib.Dec.{leb}
 use Rattle.channel.specs.Channel.{decodeNum, thresholdNum, curveDen, lineNum, lineDen}
 
@@ -17,6 +17,7 @@ pub record Fraction : Type 0 where
 abbrev pub _over_ : ℕ → ℕ → Fraction
 a over b = record { num = a; den = b }
 
+-- the sum
 abbrev pub _plus_ : Fraction → Fraction → Fraction
 p plus q = (p .num * q .den + q .num * p .den) over (p .den * q .den)
 
@@ -24,6 +25,7 @@ p plus q = (p .num * q .den + q .num * p .den) over (p .den * q .den)
 abbrev pub _by_ : Fraction → Fraction → Fraction
 p by q = (p .num * q .den) over (p .den * q .num)
 
+-- the n-th power
 abbrev pub power : Fraction → ℕ → Fraction
 power p n = (p .num ^ n) over (p .den ^ n)
 
@@ -42,6 +44,7 @@ pub data Linear : Type 0 where
   itself : Fraction → Linear
   fifthRoot : Fraction → Linear
 
+-- two of them are one value
 abbrev pub SameLinear : Linear → Linear → Type 0
 SameLinear (itself p) (itself q) = Same p q
 SameLinear (fifthRoot p) (fifthRoot q) = Same p q
