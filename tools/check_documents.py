@@ -1,8 +1,8 @@
 #!/usr/bin/env python3
 """Looks whether what docs/PROMISES.md names is there: check_documents.py
 
-In each row: every file, every edit that must fail, and every name that a file is said to hold. Prints what is missing, and how many names
-were looked for.
+In each row: every file, every edit that must fail, and every name, in the file that is said to hold it. Prints what is missing, and how
+many rows there are.
 """
 
 import glob
@@ -19,24 +19,46 @@ def text(path):
         return file.read()
 
 
-# all words of the crates' sources, definitions and proofs, of the comparison and of the Makefile
+def words(source):
+    return re.findall(r"[^\s(){}.;,@\"«»⌜⌝&<>:]+", source)
+
+
+# all words of the crates' sources, definitions and proofs
 WORDS = set()
-for end in ("rt", "antt"):
-    for source in glob.glob(os.path.join(CRATES, "**", "*." + end), recursive=True):
-        WORDS.update(re.findall(r"[^\s(){}.;,@\"«»⌜⌝&<>:]+", text(source)))
+for kind in ("rt", "antt"):
+    for place in glob.glob(os.path.join(CRATES, "**", "*." + kind), recursive=True):
+        WORDS.update(words(text(place)))
+WORDS.update(os.listdir(CRATES))
 
 
-def places(word):
-    """The files that a path may mean: without a folder of its own it is in crates/rules."""
-    for base in (CRATES, os.path.join(CRATES, "rules"), ROOT):
-        for end in ("", ".antt", ".rt"):
-            yield os.path.join(base, word + end)
+def files(word, before=None):
+    """The files or folders that a path may mean: without a folder of its own it is in crates/rules, or beside the one before it in a list."""
+    for each in [word] + ([os.path.join(os.path.dirname(before), word)] if before else []):
+        for base in (CRATES, os.path.join(CRATES, "rules"), ROOT):
+            for end in ("", ".antt", ".rt"):
+                found = glob.glob(os.path.join(base, each + end))
+                if found:
+                    return found
+    return []
 
 
-def known_path(word, before):
-    """A file or folder; after the first of a list, a file beside it."""
-    tries = [word] + ([os.path.join(os.path.dirname(before), word)] if before else [])
-    return any(glob.glob(path) for each in tries for path in places(each))
+def holds(path, name):
+    """Whether a file, or one of a folder, has a name."""
+    inside = [path] if os.path.isfile(path) else glob.glob(os.path.join(path, "**", "*.*"), recursive=True)
+    return any(set(name.split()) <= set(words(text(each))) for each in inside if os.path.isfile(each))
+
+
+def held(cell):
+    """Names, each with the files that it is said to stand in: names and then files in brackets, or a file and then names."""
+    for names, where in re.findall(r"((?:`[^`]+`(?:, | and )?)+) \(([^)]*)\)", cell):
+        before, found = None, []
+        for word in re.findall(r"[A-Za-z_/.]+", where):
+            found += files(word, before)
+            before = word if "/" in word else before
+        if found:
+            yield from ((name, found) for name in re.findall(r"`([^`]+)`", names))
+    for where, names in re.findall(r"((?:[a-z_]+/)+[A-Za-z_.]+) ((?:`[^`]+`(?:, | and )?)+)", cell):
+        yield from ((name, files(where)) for name in re.findall(r"`([^`]+)`", names))
 
 
 def edits(cell):
@@ -61,15 +83,14 @@ def missing(row):
             yield f"edit {crate}/{edit}"
     for cell in row:
         for name in re.findall(r"`([^`]+)`", cell):
-            words = name.split()
-            if words[0] == "make" or any(w in WORDS for w in (name, words[0], "«" + name + "»")):
-                continue
-            if not name.startswith("..") and not known_path(name, None):
+            if not name.startswith(("make ", "..")) and name.split()[0] not in WORDS:
                 yield f"name {name}"
+        for name, where in held(cell):
+            if not name.startswith("..") and not any(holds(path, name) for path in where):
+                yield f"name {name}, not in {', '.join(os.path.relpath(path, ROOT) for path in where)}"
         before = None
         for word in re.findall(r"(?<![\w/.`-])((?:[a-z_]+/)+[A-Za-z_*.]+)", re.sub(r"m-f .*|\[[^]]*\]\([^)]*\)", "", cell)):
-            word = word.rstrip(".")
-            if not known_path(word, before):
+            if not files(word.rstrip("."), before):
                 yield f"file {word}"
             before = word
 
