@@ -4,7 +4,7 @@ use grid::OFFSETS8;
 use grid::Step;
 use grid::on_border;
 use grid::reached;
-use verdicts::large::region_span;
+use verdicts::region_span;
 use verdicts::verdict;
 ghost use mathlib.Core.Path.{_≡_};
 ghost use mathlib.Core.Bool.{true, false};

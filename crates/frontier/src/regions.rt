@@ -1,5 +1,5 @@
 // Writing to all places of a group.
-use verdicts::large::region_span;
+use verdicts::region_span;
 ghost use mathlib.Core.Path.{_≡_};
 ghost use mathlib.Core.Logic.{_⊎_};
 ghost use Prim.Native.Nat.{_*_, _≤_, _<_};

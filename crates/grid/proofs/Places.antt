@@ -8,7 +8,7 @@ use mathlib.Core.Option.{Option, none, some}
 use native.Mathlib.Nat.{mul-zero, mul-le-mul, not-suc-le-zero, add-mul, mod-lt, mod-eq-of-lt, div-eq-of-lt, mul-add-div-right, mul-add-mod-self-right, div-add-mod', div-lt-iff-lt-mul}
 use native.Mathlib.Decide.{ℕ-discrete, decLt}
 use native.Mathlib.Omega.{arith}
-use borrow.Author.Tests.{ltb-true, ltb-false, lt-ltb, le-ltb}
+use borrow.Author.Tests.{ltb-true, ltb-false, lt-ltb, le-ltb, eqb-false}
 use lib.Dec.{lit<, leb, ltb, eqb}
 use lib.IntN.{ℤ, pos, negsuc, _+ℤ_}
 use lib.ListN.{getD}
@@ -17,8 +17,9 @@ use Rattle.base.proofs.Counting.{case, clash, both, left, right, either, or-lef
 use Rattle.rules.specs.Regions.{Symmetric}
 use Rattle.rules.specs.Grid.{close, eight, four, onSide, placeOf, stepTo}
 use Rattle.rules.proofs.Grids.{eight-symmetric, four-symmetric}
+use Rattle.checks.proofs.Rows.{neither}
 use Rattle.grid.specs.declared.Step.the-variants.{Cell, Off}
-use Rattle.grid.specs.Steps.{Single, Inner, stepOf, hood}
+use Rattle.grid.specs.Steps.{Single, onBorder, Inner, stepOf, hood}
 
 -- ---- rows, columns and places
 
@@ -395,6 +396,20 @@ pub past-is : {d : ℤ} {r : ℕ} → Single d → pos r ≡ d +ℤ pos 1 → Pa
 past-is {r = r} Single.back e = let z : r ≡ 0 = cc in record { few = omega arith; shifted = λ a b f. omega arith }
 past-is {r = r} Single.stay e = let z : r ≡ 1 = cc in record { few = omega arith; shifted = λ a b f. omega arith }
 past-is {r = r} Single.on e = let z : r ≡ 2 = cc in record { few = omega arith; shifted = λ a b f. omega arith }
+
+-- a place that is not on the border
+pub off-border : (h w p : ℕ) → p < h * w → {b : Bool} → b ≡ onBorder h w p → b ≡ false → Inner h w p
+unfolding onBorder
+off-border h w p l e z =
+    let c = neither (eqb (p / w) 0 || eqb (p % w) 0 || eqb (p / w + 1) h) (eqb (p % w + 1) w) (sym e ∙ z) in
+    let b = neither (eqb (p / w) 0 || eqb (p % w) 0) (eqb (p / w + 1) h) (c .0) in
+    let a = neither (eqb (p / w) 0) (eqb (p % w) 0) (b .0) in
+    record {
+      above = omega (arith, eqb-false (p / w) 0 (a .0));
+      below = omega (arith, row-in h w p l, eqb-false (p / w + 1) h (b .1));
+      before = omega (arith, eqb-false (p % w) 0 (a .1));
+      after = omega (arith, col-in h w p l, eqb-false (p % w + 1) w (c .1));
+    }
 
 module _ {h w p rows cols : ℕ} {dy dx : ℤ} (i : Inner h w p) (u : Past dy rows) (v : Past dx cols) where
   -- the row and the column that the step finds

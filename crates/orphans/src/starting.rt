@@ -1,5 +1,5 @@
 // Before the first pass: numbers of the work area wiped, and whether any region is small.
-use verdicts::large::region_size;
+use verdicts::region_size;
 ghost use mathlib.Core.Path.{_≡_};
 ghost use Prim.Native.Nat.{ℕ, suc, _+_, _*_, _≤_, _<_};
 ghost use lib.Dec.{ltb};

@@ -1,15 +1,17 @@
 // The verdict on one region: it stays, is frozen, or takes the index that most cells of large regions around it have.
 mod agreeing;
-pub mod large;
+mod large;
 pub mod target;
 mod voting;
 
 use crate::agreeing::agreed;
 use crate::large::large_around;
-use crate::large::region_span;
 use crate::target::choice;
 use crate::target::only_choice;
 use crate::voting::poll;
+pub use large::Span;
+pub use large::region_size;
+pub use large::region_span;
 ghost use mathlib.Core.Path.{_≡_};
 ghost use Prim.Native.Nat.{ℕ, _+_, _*_, _<_};
 ghost use lib.ListN.{length};

@@ -12,7 +12,7 @@ use mir.Facts.{toZ-ofZ}
 use lib.ListN.{length, getD}
 use Rattle.base.proofs.Counting.{not-true}
 use Rattle.grid.specs.Planes.{plane}
-use Rattle.grid.proofs.Places.{area, rowsOf, colsOf, hop, step-few, offset-single, hood-sound, hood-complete}
+use Rattle.grid.proofs.Places.{area, rowsOf, colsOf, hop, step-few, offset-single, off-border, hood-sound, hood-complete}
 use Rattle.grid.proofs.Planes.{plane-read}
 use Rattle.frontier.specs.Growing.{Gained}
 use Rattle.verdicts.proofs.Votes.{Reached}
@@ -109,7 +109,7 @@ absorb-requires c κs =
     let s = start (asked i) in
     let o = offset-single (i .before .loop .s) (s-small i) in (
       (i .before .loop .inv .0 .growth, s .pre .1),
-      (rw (toZ-ofZ (rows-fit c)) (o .0), rw (toZ-ofZ (cols-fit c)) (o .1), i .before .before .on-border .ensures),
+      (rw (toZ-ofZ (rows-fit c)) (o .0), rw (toZ-ofZ (cols-fit c)) (o .1), off-border (s .args .h) (s .args .w) (s .args .p) (s .pre .1) (i .before .before .on-border .ensures)),
     )
 
 abbrev turn : tie.After-absorb Inv-loop μ-loop → tie.In-loop Inv-loop μ-loop

@@ -10,7 +10,7 @@ use mir.Val.{SFits}
 use mir.Facts.{toZ-ofZ}
 use Rattle.rules.specs.Regions.{Symmetric}
 use Rattle.rules.specs.Pass.{Rule}
-use Rattle.grid.proofs.Places.{rowsOf, colsOf, hop, step-few, offset-single, hood-symmetric, hood-complete}
+use Rattle.grid.proofs.Places.{rowsOf, colsOf, hop, step-few, offset-single, off-border, hood-symmetric, hood-complete}
 use Rattle.verdicts.specs.Judging.{ruleOf}
 use Rattle.frontier.specs.Judging.{Met, Small}
 use Rattle.verdicts.proofs.Votes.{Reached}
@@ -77,7 +77,7 @@ judge-step-requires c κs =
     let s = start i in
     let o = offset-single (i .before .loop .s) (s-small i) in (
       (i .before .loop .inv .0 .stage, s .pre .0 .1),
-      (s .pre .1, rw (toZ-ofZ (rows-fit c)) (o .0), rw (toZ-ofZ (cols-fit c)) (o .1), i .before .before .on-border .ensures),
+      (s .pre .1, rw (toZ-ofZ (rows-fit c)) (o .0), rw (toZ-ofZ (cols-fit c)) (o .1), off-border (s .args .h) (s .args .w) (s .args .p) (s .pre .1) (i .before .before .on-border .ensures)),
     )
 
 abbrev turn : tie.After-judge-step Inv-loop μ-loop → tie.In-loop Inv-loop μ-loop

@@ -13,7 +13,7 @@ use mir.Facts.{toZ-ofZ}
 use Rattle.grid.specs.Steps.{Inner}
 use Rattle.grid.specs.Planes.{plane}
 use Rattle.grid.specs.Filling.{seen, Coded, Tinted}
-use Rattle.grid.proofs.Places.{area, rowsOf, colsOf, step-few, offset-single}
+use Rattle.grid.proofs.Places.{area, rowsOf, colsOf, step-few, offset-single, off-border}
 use Rattle.grid.proofs.Planes.{plane-read}
 use Rattle.grid.proofs.Flooding.{Turn, turn-start, turn-on, turn-off}
 use Rattle.grid.proofs.Seen.{seen-size, seen-other, seen-length}
@@ -113,7 +113,7 @@ cols-fit c = record { sfits = c .visit-arg3 .given }
 
 -- what the place's test told
 border : (i : tie.In-loop Inv-loop μ-loop) → i .before .before .on-border .result ≡ false → Inner (start i .args .h) (start i .args .w) (place (start i))
-border i = i .before .before .on-border .ensures
+border i = let s = start i in off-border (s .args .h) (s .args .w) (place s) (bounds s .on) (i .before .before .on-border .ensures)
 
 -- the code is that of the place's paint
 paint-is : (i : tie.In-loop Inv-loop μ-loop) → let s = start i in let n = s .args .h * s .args .w in s .args .code - 264196 ≡ plane n 0 (seen n (i .before .loop .work)) (place s)

@@ -7,7 +7,7 @@ use borrow.Author.Needs.{needs}
 use mir.Syntax.{w32}
 use mir.Val.{SFits}
 use mir.Facts.{toZ-ofZ}
-use Rattle.grid.proofs.Places.{rowsOf, colsOf, hop, step-few, offset-single}
+use Rattle.grid.proofs.Places.{rowsOf, colsOf, hop, step-few, offset-single, off-border}
 use Rattle.verdicts.specs.Agreeing.{asked, askedBeside}
 use Rattle.verdicts.proofs.agreeing.ask_beside.Statement.{statement}
 use Rattle.verdicts.proofs.agreeing.ask_beside.Tie as tie
@@ -76,7 +76,7 @@ ask-step-requires c κs =
     let i = turn c in
     let s = start i in
     let o = offset-single (i .before .loop .s) (few i) in
-    ((s .pre .1, s .pre .0 .rows, s .pre .0 .cols, s .pre .0 .room), (rw (toZ-ofZ (rows-fit c)) (o .0), rw (toZ-ofZ (cols-fit c)) (o .1), i .before .before .on-border .ensures))
+    ((s .pre .1, s .pre .0 .rows, s .pre .0 .cols, s .pre .0 .room), (rw (toZ-ofZ (rows-fit c)) (o .0), rw (toZ-ofZ (cols-fit c)) (o .1), off-border (s .args .h) (s .args .w) (s .args .p) (s .pre .1) (i .before .before .on-border .ensures)))
 
 add-s : tie.Need-add-s Inv-loop μ-loop
 add-s c = omega (arith, few (turn (c .before)))

@@ -6,7 +6,7 @@ use borrow.Author.Needs.{needs}
 use mir.Syntax.{w32}
 use mir.Val.{SFits}
 use mir.Facts.{toZ-ofZ}
-use Rattle.grid.proofs.Places.{rowsOf, colsOf, hop, step-few, offset-single}
+use Rattle.grid.proofs.Places.{rowsOf, colsOf, hop, step-few, offset-single, off-border}
 use Rattle.verdicts.specs.Polling.{Polled}
 use Rattle.verdicts.proofs.Keeping.{sheet-votes, sheet-polled}
 use Rattle.verdicts.proofs.Votes.{Reached, reach-start, reach-on, reach-all}
@@ -67,7 +67,7 @@ vote-requires c κs =
       (
         (l, d .rows, d .cols, s .pre .1 .0 .1),
         (
-          (rw (toZ-ofZ (rows-fit c)) (o .0), rw (toZ-ofZ (cols-fit c)) (o .1), i .before .before .on-border .ensures),
+          (rw (toZ-ofZ (rows-fit c)) (o .0), rw (toZ-ofZ (cols-fit c)) (o .1), off-border (s .args .h) (s .args .w) (s .args .p) (s .pre .1 .0 .0) (i .before .before .on-border .ensures)),
           u .tally,
         ),
       ),
