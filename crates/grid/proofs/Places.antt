@@ -15,11 +15,11 @@ use lib.ListN.{getD}
 use lib.Signed.{leZ}
 use Rattle.base.proofs.Counting.{case, clash, both, left, right, either, or-left, or-right, not-true, not-false, eqb-yes, yes-eqb, leb-yes, yes-leb}
 use Rattle.rules.specs.Regions.{Symmetric}
-use Rattle.rules.specs.Grid.{close, eight, four, onSide, placeOf, stepTo}
+use Rattle.rules.specs.Grid.{close, eight, four, onEdge, onSide, placeOf, stepTo}
 use Rattle.rules.proofs.Grids.{eight-symmetric, four-symmetric}
 use Rattle.checks.proofs.Rows.{neither}
 use Rattle.grid.specs.declared.Step.the-variants.{Cell, Off}
-use Rattle.grid.specs.Steps.{Single, onBorder, Inner, stepOf, hood}
+use Rattle.grid.specs.Steps.{Single, Inner, stepOf, hood}
 
 -- ---- rows, columns and places
 
@@ -398,16 +398,16 @@ past-is {r = r} Single.stay e = let z : r ≡ 1 = cc in record { few = omega ari
 past-is {r = r} Single.on e = let z : r ≡ 2 = cc in record { few = omega arith; shifted = λ a b f. omega arith }
 
 -- a place that is not on the border
-pub off-border : (h w p : ℕ) → p < h * w → {b : Bool} → b ≡ onBorder h w p → b ≡ false → Inner h w p
-unfolding onBorder
+pub off-border : (h w p : ℕ) → p < h * w → {b : Bool} → b ≡ onEdge h w p → b ≡ false → Inner h w p
+unfolding onEdge
 off-border h w p l e z =
-    let c = neither (eqb (p / w) 0 || eqb (p % w) 0 || eqb (p / w + 1) h) (eqb (p % w + 1) w) (sym e ∙ z) in
-    let b = neither (eqb (p / w) 0 || eqb (p % w) 0) (eqb (p / w + 1) h) (c .0) in
-    let a = neither (eqb (p / w) 0) (eqb (p % w) 0) (b .0) in
+    let c = neither (eqb (p / w) 0 || eqb (p / w + 1) h || eqb (p % w) 0) (eqb (p % w + 1) w) (sym e ∙ z) in
+    let b = neither (eqb (p / w) 0 || eqb (p / w + 1) h) (eqb (p % w) 0) (c .0) in
+    let a = neither (eqb (p / w) 0) (eqb (p / w + 1) h) (b .0) in
     record {
       above = omega (arith, eqb-false (p / w) 0 (a .0));
-      below = omega (arith, row-in h w p l, eqb-false (p / w + 1) h (b .1));
-      before = omega (arith, eqb-false (p % w) 0 (a .1));
+      below = omega (arith, row-in h w p l, eqb-false (p / w + 1) h (a .1));
+      before = omega (arith, eqb-false (p % w) 0 (b .1));
       after = omega (arith, col-in h w p l, eqb-false (p % w + 1) w (c .1));
     }
 

@@ -1,6 +1,6 @@
 -- Steps from a cell of a grid to its neighbours. Definitions only. Assumes nothing.
 use Prim.Native.Nat.{ℕ, _+_, _/_, _%_, _<_}
-use mathlib.Core.Bool.{Bool, _||_, cond}
+use mathlib.Core.Bool.{Bool, cond}
 use mathlib.Core.Option.{Option, none, some}
 use lib.Dec.{eqb}
 use lib.IntN.{ℤ, pos, negsuc}
@@ -18,10 +18,6 @@ pub data Single : ℤ → Type 0 where
   back : Single (negsuc 0)
   stay : Single (pos 0)
   on : Single (pos 1)
-
--- the place p lies on the border of a grid of h rows and w columns
-unfoldable pub onBorder : ℕ → ℕ → ℕ → Bool
-onBorder h w p = eqb (p / w) 0 || eqb (p % w) 0 || eqb (p / w + 1) h || eqb (p % w + 1) w
 
 -- the place p has cells all around
 pub record Inner (h w p : ℕ) : Type 0 where

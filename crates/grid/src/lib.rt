@@ -13,9 +13,9 @@ ghost use mathlib.Core.Bool.{true, false};
 ghost use mathlib.Core.List.{[]};
 ghost use lib.ListN.{length};
 ghost use Rattle.base.specs.Refusals.{filling};
-ghost use Rattle.rules.specs.Grid.{onSide, stepTo};
+ghost use Rattle.rules.specs.Grid.{onEdge, onSide, stepTo};
 ghost use Rattle.rules.specs.Masks.{gridRefusal, regionsAnswer, regionsLabels};
-ghost use Rattle.grid.specs.Steps.{stepOf, Single, onBorder, Inner};
+ghost use Rattle.grid.specs.Steps.{stepOf, Single, Inner};
 
 // What a step from a cell finds.
 pub enum Step {
@@ -77,7 +77,7 @@ pub fn neighbour(y: usize, x: usize, dy: i32, dx: i32, h: usize, w: usize) -> St
 // Whether the place p lies on the border of the grid.
 pub fn on_border(p: usize, h: usize, w: usize) -> bool
     requires { ⌜ (p < h * w) × (h ≤ 514) × (w ≤ 514) ⌝ }
-    ensures { λ r. ⌜ r ≡ onBorder h w p ⌝ }
+    ensures { λ r. ⌜ r ≡ onEdge h w p ⌝ }
 {
     let y = p / w;
     let x = p % w;

@@ -12,7 +12,8 @@ use Rattle.base.specs.Places.{any}
 use Rattle.base.proofs.Counting.{clash, both, left, right, either, or-left, or-right, eqb-yes, yes-eqb, any-yes, yes-any, any-no, same-test}
 use Rattle.rules.specs.Sheet.{Sheet, area, sheetOf}
 use Rattle.rules.specs.Regions.{opaque}
-use Rattle.rules.specs.Outline.{onEdge, touches}
+use Rattle.rules.specs.Grid.{onEdge}
+use Rattle.rules.specs.Outline.{touches}
 use Rattle.grid.proofs.Places.{wide, row-in, col-in, row-of, col-of, place-in}
 use Rattle.outline.proofs.Places.{row-back, some-row, front}
 
@@ -23,18 +24,18 @@ pub data Edge (h w y x : ℕ) : Type 0 where
   start : x ≡ 0 → Edge h w y x
   end : x + 1 ≡ w → Edge h w y x
 
-on-edge : (s : Sheet) (p : ℕ) → onEdge s p ≡ true → Edge (s .height) (s .width) (p / s .width) (p % s .width)
+on-edge : (h w p : ℕ) → onEdge h w p ≡ true → Edge h w (p / w) (p % w)
 unfolding onEdge
-on-edge s p e =
+on-edge h w p e =
     ⊎-elim (λ a. ⊎-elim (λ b. ⊎-elim (λ c. top (eqb-yes c)) (λ c. bottom (eqb-yes c)) (either _ _ b)) (λ b. start (eqb-yes b)) (either _ _ a)) (λ a. end (eqb-yes a))
-    (either (eqb (p / s .width) 0 || eqb (p / s .width + 1) (s .height) || eqb (p % s .width) 0) _ e)
+    (either (eqb (p / w) 0 || eqb (p / w + 1) h || eqb (p % w) 0) _ e)
 
-edge-on : (s : Sheet) (p : ℕ) → Edge (s .height) (s .width) (p / s .width) (p % s .width) → onEdge s p ≡ true
+edge-on : (h w p : ℕ) → Edge h w (p / w) (p % w) → onEdge h w p ≡ true
 unfolding onEdge
-edge-on s p (top e) = or-left _ (or-left _ (or-left _ (yes-eqb {m = p / s .width} e)))
-edge-on s p (bottom e) = or-left _ (or-left _ (or-right (eqb (p / s .width) 0) (yes-eqb {m = p / s .width + 1} e)))
-edge-on s p (start e) = or-left _ (or-right (eqb (p / s .width) 0 || eqb (p / s .width + 1) (s .height)) (yes-eqb {m = p % s .width} e))
-edge-on s p (end e) = or-right (eqb (p / s .width) 0 || eqb (p / s .width + 1) (s .height) || eqb (p % s .width) 0) (yes-eqb {m = p % s .width + 1} e)
+edge-on h w p (top e) = or-left _ (or-left _ (or-left _ (yes-eqb {m = p / w} e)))
+edge-on h w p (bottom e) = or-left _ (or-left _ (or-right (eqb (p / w) 0) (yes-eqb {m = p / w + 1} e)))
+edge-on h w p (start e) = or-left _ (or-right (eqb (p / w) 0 || eqb (p / w + 1) h) (yes-eqb {m = p % w} e))
+edge-on h w p (end e) = or-right (eqb (p / w) 0 || eqb (p / w + 1) h || eqb (p % w) 0) (yes-eqb {m = p % w + 1} e)
 
 -- an opaque cell on an edge touches it
 pub touch-yes : (s : Sheet) (y x : ℕ) → y < s .height → x < s .width → Edge (s .height) (s .width) y x → opaque (s .cells) (y * s .width + x) ≡ true → touches s ≡ true
@@ -42,7 +43,7 @@ unfolding touches area
 touch-yes s y x ly lx e o =
     let w = s .width in
     yes-any _ _ (y * w + x) (place-in (s .height) w y x ly lx)
-    (both o (edge-on s (y * w + x) (subst (λ (i : ℕ). Edge (s .height) w i ((y * w + x) % w)) (sym (row-of w y x lx))
+    (both o (edge-on (s .height) w (y * w + x) (subst (λ (i : ℕ). Edge (s .height) w i ((y * w + x) % w)) (sym (row-of w y x lx))
     (subst (λ (j : ℕ). Edge (s .height) w y j) (sym (col-of w y x lx)) e))))
 
 -- such a cell is there, if an edge is touched
@@ -65,8 +66,8 @@ touching s e =
       col = p % w;
       in-row = row-in (s .height) w p (r .1);
       in-col = col-in (s .height) w p (r .1);
-      edge = on-edge s p (right (opaque (s .cells) p) _ (r .2));
-      solid = subst (λ (i : ℕ). opaque (s .cells) i ≡ true) (sym (div-add-mod' p w)) (left _ (onEdge s p) (r .2));
+      edge = on-edge (s .height) w p (right (opaque (s .cells) p) _ (r .2));
+      solid = subst (λ (i : ℕ). opaque (s .cells) i ≡ true) (sym (div-add-mod' p w)) (left _ (onEdge (s .height) w p) (r .2));
     }
 
 -- ---- the four lines of cells along the edges

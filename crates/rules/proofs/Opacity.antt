@@ -15,11 +15,11 @@ use Rattle.rules.specs.declared.PostConfig.{PostConfig}
 use Rattle.rules.specs.declared.Outline.{Outline}
 use Rattle.rules.specs.Sheet.{Sheet, area}
 use Rattle.rules.specs.Palette.{Palette}
-use Rattle.rules.specs.Grid.{four}
+use Rattle.rules.specs.Grid.{four, onEdge}
 use Rattle.rules.specs.Regions.{at, opaque}
 use Rattle.rules.specs.Pass.{fresh}
 use Rattle.rules.specs.Corners.{same, Corner, corners, arms, around, goesOn, opposite, isCorner, trimmedBy, trimmed, trim}
-use Rattle.rules.specs.Outline.{onEdge, touches, asked, pads, paddedAt, padded, canvas, ring, hasRing, inked, drawn, outline, chosenIndex, lineColour, choice}
+use Rattle.rules.specs.Outline.{touches, asked, pads, paddedAt, padded, canvas, ring, hasRing, inked, drawn, outline, chosenIndex, lineColour, choice}
 use Rattle.rules.specs.Run.{Limits, ruleOn, tidy, tidyIf, limitsOf, toned, padAllowed, outlineIf, process}
 use Rattle.rules.specs.Claims.{KeepsOpaque}
 use Rattle.rules.proofs.Grids.{eight-symmetric}
@@ -133,7 +133,7 @@ module _ {s t : Sheet} (k : Alike s t) where
 
   touches-same : touches t ≡ touches s
   unfolding touches onEdge area
-  touches-same = ap touches same-shape ∙ any-same (s .height * s .width) _ _ (λ p h. ap (λ (b : Bool). b && onEdge s p) (k .opaq p))
+  touches-same = ap touches same-shape ∙ any-same (s .height * s .width) _ _ (λ p h. ap (λ (b : Bool). b && onEdge (s .height) (s .width) p) (k .opaq p))
 
   pub pads-same : (allowed : Bool) (how : Outline) → pads allowed how t ≡ pads allowed how s
   unfolding pads

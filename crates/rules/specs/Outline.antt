@@ -15,20 +15,15 @@ use Rattle.rules.specs.declared.Outline.the-variants.{None, Auto, Rgb}
 use Rattle.rules.specs.declared.LineIndex.{LineIndex}
 use Rattle.rules.specs.declared.LineIndex.the-variants.{Nothing, Entry}
 use Rattle.rules.specs.Sheet.{Sheet, area}
-use Rattle.rules.specs.Grid.{four}
+use Rattle.rules.specs.Grid.{four, onEdge}
 use Rattle.rules.specs.Regions.{at, opaque}
 use Rattle.rules.specs.Palette.{Palette, colour, recoloured, firstLeast, firstWhere}
 
 -- ---- padding
 
--- the place p lies on an edge
-unfoldable pub onEdge : Sheet → ℕ → Bool
-onEdge s p =
-    eqb (p / s .width) 0 || eqb (p / s .width + 1) (s .height) || eqb (p % s .width) 0 || eqb (p % s .width + 1) (s .width)
-
 -- an opaque cell touches an edge
 unfoldable pub touches : Sheet → Bool
-touches s = any (area s) (λ p. opaque (s .cells) p && onEdge s p)
+touches s = any (area s) (λ p. opaque (s .cells) p && onEdge (s .height) (s .width) p)
 
 -- an outline is asked for
 unfoldable pub asked : Outline → Bool

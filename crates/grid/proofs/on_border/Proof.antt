@@ -1,10 +1,12 @@
 -- `grid::on_border`, side by side. Assumes nothing.
 use Prim.Native.Nat.{_+_, _<_, _/_, _%_}
-use mathlib.Core.Path.{_≡_}
+use mathlib.Core.Path.{_≡_, sym}
 use mathlib.Core.Bool.{Bool, false, _||_}
 use native.Mathlib.Omega.{arith}
 use borrow.Author.Tests.{eq-eqb, ne-eqb}
-use Rattle.grid.specs.Steps.{onBorder}
+use lib.Dec.{eqb}
+use Rattle.base.proofs.Counting.{or-left, or-right}
+use Rattle.rules.specs.Grid.{onEdge}
 use Rattle.grid.proofs.Places.{wide, row-in, col-in}
 use Rattle.grid.proofs.on_border.Statement.{statement}
 use Rattle.grid.proofs.on_border.Tie as tie
@@ -17,20 +19,20 @@ last : {a b c : Bool} (d : Bool) → a ≡ false → b ≡ false → c ≡ false
 last d x y z = rw (x, y, z)
 
 returns : tie.Need-returns
-unfolding onBorder
+unfolding onEdge
 returns c = simp (eq-eqb _ _ (c .if1 .taken))
 
 returns-2 : tie.Need-returns-2
-unfolding onBorder
-returns-2 c = simp (ne-eqb _ _ (c .before .if1 .left), eq-eqb _ _ (c .if2 .taken))
+unfolding onEdge
+returns-2 c = let a = c .before .before .args in sym (or-left _ (or-right (eqb (a .p / a .w) 0 || eqb (a .p / a .w + 1) (a .h)) (eq-eqb _ _ (c .if2 .taken))))
 
 returns-3 : tie.Need-returns-3
-unfolding onBorder
-returns-3 c = simp (ne-eqb _ _ (c .before .before .if1 .left), ne-eqb _ _ (c .before .if2 .left), eq-eqb _ _ (c .if3 .taken))
+unfolding onEdge
+returns-3 c = simp (ne-eqb _ _ (c .before .before .if1 .left), eq-eqb _ _ (c .if3 .taken))
 
 returns-4 : tie.Need-returns-4
-unfolding onBorder
-returns-4 c = last _ (ne-eqb _ _ (c .before .before .if1 .left)) (ne-eqb _ _ (c .before .if2 .left)) (ne-eqb _ _ (c .if3 .left))
+unfolding onEdge
+returns-4 c = last _ (ne-eqb _ _ (c .before .before .if1 .left)) (ne-eqb _ _ (c .if3 .left)) (ne-eqb _ _ (c .before .if2 .left))
 
 div-y : tie.Need-div-y
 div-y c = wide-at c
