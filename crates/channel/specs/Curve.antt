@@ -10,10 +10,12 @@ use Rattle.channel.specs.Channel.{decodeNum, thresholdNum, curveDen, lin
 infix 75 _over_
 infixl 65 _plus_
 infixl 70 _by_
+-- a fraction of whole numbers; all that are written here have a denominator above 0
 pub record Fraction : Type 0 where
   pub num : ℕ
   pub den : ℕ
 
+-- the fraction a / b
 abbrev pub _over_ : ℕ → ℕ → Fraction
 a over b = record { num = a; den = b }
 
@@ -55,24 +57,27 @@ SameLinear (fifthRoot p) (itself q) = ⊥
 abbrev pub line : Fraction → Linear
 line c = itself (c by 1292 over 100)
 
--- the power: l = ((c + 0.055) / 1.055) ^ 2.4, so that c = 1.055 l ^ (1 / 2.4) - 0.055; 2.4 is 12 / 5
+-- what is raised to the power: (c + 0.055) / 1.055
 abbrev pub raised : Fraction → Fraction
 raised c = (c plus 55 over 1000) by 1055 over 1000
 
+-- the power: l = ((c + 0.055) / 1.055) ^ 2.4, so that c = 1.055 l ^ (1 / 2.4) - 0.055; 2.4 is 12 / 5
 abbrev pub curve : Fraction → Linear
 curve c = fifthRoot (power (raised c) 12)
 
--- decoding takes the line up to c = 0.04045
+-- where decoding goes from the line to the power: c = 0.04045
 abbrev pub decodeSplit : Fraction
 decodeSplit = 4045 over 100000
 
+-- what the standard decodes c to: the line up to the split, the power above it
 abbrev pub decoded : Fraction → Linear
 decoded c = cond (atMost c decodeSplit) (line c) (curve c)
 
--- encoding takes the line up to l = 0.0031308
+-- where encoding goes from the line to the power: l = 0.0031308
 abbrev pub encodeSplit : Fraction
 encodeSplit = 31308 over 10000000
 
+-- l is at most that
 abbrev pub low : Linear → Bool
 low (itself p) = atMost p encodeSplit
 low (fifthRoot p) = atMost p (power encodeSplit 5)
@@ -83,15 +88,16 @@ Encodes l c = SameLinear l (cond (low l) (line c) (curve c))
 
 -- ---- what the tables have of it
 
--- The byte k stands for k / 255: up to 10 it is decoded by the line, from 11 on by the power, to the fifth root of decodeNum k / curveDen
+-- the byte k stands for k / 255: up to 10 it is decoded by the line, from 11 on by the power, to the fifth root of decodeNum k / curveDen
 pub record DecodesByte (k : ℕ) : Type 0 where
   pub straight : k ≤ 10 → decoded (k over 255) ≡ line (k over 255)
   pub curved : 10 < k → SameLinear (fifthRoot (decodeNum k over curveDen)) (decoded (k over 255))
 
--- The byte j is taken from the half before it up, (j - 1 / 2) / 255: what is encoded as that is lineNum j / lineDen up to 10, from 11 on the fifth root of thresholdNum j / curveDen
+-- half way from the byte before to the byte j: (j - 1 / 2) / 255
 abbrev pub halfBefore : ℕ → Fraction
 halfBefore j = (2 * j - 1) over (2 * 255)
 
+-- the byte j is taken from that on: what is encoded as it is lineNum j / lineDen up to 10, from 11 on the fifth root of thresholdNum j / curveDen
 pub record TakesByte (j : ℕ) : Type 0 where
   pub straight : j ≤ 10 → Encodes (itself (lineNum j over lineDen)) (halfBefore j)
   pub curved : 10 < j → Encodes (fifthRoot (thresholdNum j over curveDen)) (halfBefore j)
