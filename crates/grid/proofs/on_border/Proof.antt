@@ -1,5 +1,5 @@
 -- `grid::on_border`, side by side. Assumes nothing.
-use Prim.Native.Nat.{_+_, _<_, _/_, _%_}
+use Prim.Native.Nat.{_+_, _<_, _/_}
 use mathlib.Core.Path.{_≡_, sym}
 use mathlib.Core.Bool.{Bool, false, _||_}
 use native.Mathlib.Omega.{arith}
