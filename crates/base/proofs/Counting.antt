@@ -36,6 +36,10 @@ pub either : (a b : Bool) → (a || b) ≡ true → (a ≡ true) ⊎ (b ≡ true
 either true b e = inl refl
 either false b e = inr e
 
+pub neither : (a b : Bool) → (a || b) ≡ false → (a ≡ false) × (b ≡ false)
+neither true b e = absurd (true≢false e)
+neither false b e = (refl, e)
+
 pub or-left : {a : Bool} (b : Bool) → a ≡ true → (a || b) ≡ true
 or-left b y = rw y
 
