@@ -23,8 +23,8 @@ unfolding cases outcome
     Computed.sqrtOf Computed.nearestRoot Computed.last Units.mag Units.magF decimal Lab.entry Lab.dist2 Lab.distance Sheet.area Palette.colour Palette.firstLeast
     Grid.close Grid.eight Grid.four Grid.onEdge Grid.onSide Grid.placeOf Grid.stepTo
     Regions.at Regions.opaque Regions.index Regions.alike Regions.link Regions.held Regions.spread Regions.roots Regions.inside Regions.first
-    Pass.marked Pass.size Pass.few Pass.isLarge Pass.view Pass.choose Pass.judged Pass.votes Pass.most Pass.frequent Pass.target Pass.top Pass.voter Pass.pending Pass.decided Pass.verdict Pass.painted Pass.merges Pass.freezes Pass.fates Pass.fate Pass.applied Pass.moves Pass.fresh Pass.clean
-    Corners.same Corners.corners Corners.finds Corners.opposite Corners.arms Corners.around Corners.goesOn Corners.isCorner Corners.trimmedBy Corners.trimmed Corners.trim
+    Pass.marked Pass.size Pass.few Pass.isLarge Pass.view Pass.judged Pass.votes Pass.most Pass.frequent Pass.target Pass.top Pass.voter Pass.pending Pass.verdict Pass.painted Pass.merges Pass.freezes Pass.fates Pass.fate Pass.applied Pass.moves Pass.fresh Pass.clean
+    Corners.same Corners.corners Corners.look Corners.finds Corners.opposite Corners.arms Corners.around Corners.goesOn Corners.isCorner Corners.trimmedBy Corners.trimmed Corners.trim
     Outline.touches Outline.asked Outline.pads Outline.paddedAt Outline.padded Outline.canvas Outline.ring Outline.hasRing Outline.inked Outline.darkest Outline.darkened Outline.lineColour Outline.nearestEntry Outline.choice Outline.chosenIndex Outline.chosenPalette Outline.drawn Outline.outline
-    Run.ruleOn Run.tidy Ieee.sub Ieee.mul Ieee.le Ieee.ofBits
+    Run.ruleOn Run.ruleFor Run.cleanSheet Ieee.sub Ieee.mul Ieee.le Ieee.ofBits
 examples = refl

@@ -7,7 +7,7 @@
 use Prim.Native.Nat.{ℕ, _<_}
 use mathlib.Core.Path.{_≡_, refl, sym, ap, _∙_}
 use mathlib.Core.Logic.{_⊎_, inl, inr, ⊎-elim, _↔_}
-use mathlib.Core.Bool.{Bool, true, false, not, _&&_, _||_}
+use mathlib.Core.Bool.{Bool, true, false, not, _&&_, _||_, cond}
 use mathlib.Core.List.{List}
 use mathlib.Core.Option.{Option, none, some}
 use native.Mathlib.Nat.{le-antisymm}
@@ -17,10 +17,11 @@ use lib.ListN.{length}
 use lib.Seq.{ext-getD}
 use Rattle.base.specs.Places.{table, any}
 use Rattle.rules.specs.Regions.{at, opaque, index, link, Joined, here, step, held, roots, root, inside, first, Symmetric}
-use Rattle.rules.specs.Pass.{Rule, State, View, marked, small, large, view, Verdict, stay, voter, top, target, judged, pending, decided, verdict, merges, freezes, fates, fate, pass, repaints, moves}
+use Rattle.rules.specs.Pass.{Rule, State, View, marked, small, large, view, Verdict, stay, voter, target, judged, pending, verdict, merges, freezes, fates, fate, pass, repaints, moves}
 use Rattle.base.proofs.Counting.{case, clash, both, left, right, not-true, not-false, same-test, eqb-yes, yes-eqb, table-at, table-length, any-yes, yes-any, any-no, or-left, or-right}
 use Rattle.rules.proofs.Roots.{link-adj, link-same, link-left, link-right, to-link, join-left, join-right, join-same, join-trans, join-sym, opaque-below, joined-root, root-first, inside-join, join-inside, lift-join}
-use Rattle.rules.proofs.Passes.{large-opaque, small-opaque, small-or-large, not-both, join-large, stays-large, fate-at, pass-length, view-large, large-stays, repainted-large, repainted-small, small-kept, small-was, small-region, unpainted-kept, join-repaints, pending-small, pending-then, target-some, frequent-voter, frozen-at, frozen-length}
+use Rattle.rules.proofs.Least.{least-some}
+use Rattle.rules.proofs.Passes.{large-opaque, small-opaque, small-or-large, not-both, join-large, stays-large, fate-at, pass-length, view-large, large-stays, repainted-large, repainted-small, small-kept, small-was, small-region, unpainted-kept, join-repaints, pending-small, pending-then, frequent-voter, frozen-at, frozen-length}
 use Rattle.rules.proofs.More.{pass-opaque}
 
 -- ---- what the lemmas speak of
@@ -77,7 +78,7 @@ unfoldable pub decidedBy : Rule → View → (ℕ → Bool) → ℕ → Bool →
 decidedBy rule v front m false = stay
 decidedBy rule v front m true =
     let own = index (at (v .cells) m) in
-    judged rule own (target rule (v .cells) own (table (rule .places) (λ q. front q && any (rule .places) (λ p. inside (v .cells) (v .root) m p && rule .adj p q))) (top rule (v .cells)))
+    judged rule own (target rule (v .cells) own (table (rule .places) (λ q. front q && any (rule .places) (λ p. inside (v .cells) (v .root) m p && rule .adj p q))))
 
 -- ---- parts of tests
 
@@ -293,7 +294,7 @@ module _ (rule : Rule) (symm : Symmetric (rule .adj)) (s : State) (len : length 
 
   -- a large place has no fate
   pub fate-large : (x : ℕ) → x < n → large rule cells x ≡ true → fate (fates rule s) x ≡ stay
-  unfolding verdict decided
+  unfolding verdict
   fate-large x b h =
       let j = joined-root n adj cells len x (large-opaque rule symm cells len x h) in
       fate-at rule symm s len x b
@@ -358,23 +359,23 @@ module _ (rule : Rule) (symm : Symmetric (rule .adj)) (s : State) (len : length 
 
   -- a region without a voter stays
   pub verdict-none : (m : ℕ) → ((q : ℕ) → Voter rule s m q → ⊥) → verdict rule (view rule s) m ≡ stay
-  unfolding verdict decided judged view marked
+  unfolding verdict target judged view marked
   verdict-none m none-votes =
       case (pending rule (view rule s) m)
-      (λ y. rw y (go (pending-record m y) (target rule cells (index (at cells m)) (table n (voter rule (view rule s) m)) (top rule cells)) refl))
+      (λ y. rw y (go (pending-record m y) (target rule cells (index (at cells m)) (table n (voter rule (view rule s) m))) refl))
       (λ z. rw z)
     where
-      go : Pending rule s m → (o : Option ℕ) → target rule cells (index (at cells m)) (table n (voter rule (view rule s) m)) (top rule cells) ≡ o → judged rule (index (at cells m)) o ≡ stay
+      go : Pending rule s m → (o : Option ℕ) → target rule cells (index (at cells m)) (table n (voter rule (view rule s) m)) ≡ o → judged rule (index (at cells m)) o ≡ stay
       go w none e = refl
       go w (some c) e =
           let voters = table n (voter rule (view rule s) m) in
-          let a = target-some rule (view rule s) (index (at cells m)) voters (top rule cells) c e in
+          let a = least-some _ _ _ c e in
           let b = frequent-voter rule (view rule s) voters c (a .1) in
           absurd (none-votes (b .0) (voter-record m (b .0) (small-opaque rule symm cells len m (w .little)) (w .first) (b .1) (sym (table-at n (voter rule (view rule s) m) false (b .0) (b .1)) ∙ b .2)))
 
   -- a place whose region is not pending keeps its fate: none
   pub fate-idle : (x : ℕ) → (Pending rule s (root n adj cells x) → ⊥) → x < n → fate (fates rule s) x ≡ stay
-  unfolding verdict decided
+  unfolding verdict
   fate-idle x f h =
       fate-at rule symm s len x h
       ∙ case (pending rule (view rule s) (root n adj cells x)) (λ y. absurd (f (pending-record (root n adj cells x) y))) (λ z. rw z)
@@ -426,12 +427,12 @@ module _ (rule : Rule) (symm : Symmetric (rule .adj)) (s : State) (len : length 
 
     -- so the verdict follows from them
     pub verdict-by : (m : ℕ) → verdict rule (view rule s) m ≡ decidedBy rule (view rule s) front m (pending rule (view rule s) m)
-    unfolding verdict decided decidedBy view
-    verdict-by m = case (pending rule (view rule s) m) (λ y. rw y (ap (λ (l : List Bool). judged rule (index (at cells m)) (target rule cells (index (at cells m)) l (top rule cells))) (same-votes m (pending-record m y)))) (λ z. rw z)
+    unfolding verdict decidedBy view
+    verdict-by m = case (pending rule (view rule s) m) (λ y. rw y (ap (λ (l : List Bool). judged rule (index (at cells m)) (target rule cells (index (at cells m)) l)) (same-votes m (pending-record m y)))) (λ z. rw z)
 
     -- and a region that no place of the frontier is beside stays
     pub verdict-apart : (m : ℕ) → ((y q : ℕ) → Joined adj cells m y → adj y q ≡ true → front q ≡ true → ⊥) → verdict rule (view rule s) m ≡ stay
-    unfolding verdict decided
+    unfolding verdict
     verdict-apart m g =
         case (pending rule (view rule s) m)
         (λ y. verdict-none m (λ q u. g (u .edge) q (u .of-it) (u .touch) (f .all m q (pending-record m y) u)))
@@ -455,12 +456,12 @@ module _ (rule : Rule) (symm : Symmetric (rule .adj)) (s : State) (len : length 
 
   -- the fate of a region does not depend on the frozen cells of others
   pub fate-local : (x : ℕ) → opaque (s .cells) x ≡ true → ((p : ℕ) → Joined (rule .adj) (s .cells) x p → marked frozenNow p ≡ marked (s .frozen) p) → fate (fates rule s) x ≡ fate (fates rule (withFrozen s frozenNow)) x
-  unfolding withFrozen verdict decided voter view
+  unfolding withFrozen verdict voter view
   fate-local x o f =
       let n = rule .places in
       let m = root n (rule .adj) (s .cells) x in
       let b = opaque-below n (rule .adj) (s .cells) len x o in
       let j = joined-root n (rule .adj) (s .cells) len x o in
       fate-at rule symm s len x b
-      ∙ ap (decided rule (view rule s) m) (same-pending m (λ p i. f p (join-trans (rule .adj) (s .cells) j i)))
+      ∙ ap (λ (b : Bool). let own = index (at (s .cells) m) in cond b (judged rule own (target rule (s .cells) own (table n (voter rule (view rule s) m)))) stay) (same-pending m (λ p i. f p (join-trans (rule .adj) (s .cells) j i)))
       ∙ sym (fate-at rule symm (withFrozen s frozenNow) len x b)

@@ -12,7 +12,7 @@ use lib.Dec.{ltb, eqb}
 use lib.ListN.{length}
 use Rattle.base.specs.Places.{table, any}
 use Rattle.rules.specs.Regions.{at, opaque, index, Joined, roots, root, inside, label, Symmetric}
-use Rattle.rules.specs.Pass.{Rule, State, marked, small, large, view, Verdict, stay, top, target, judged, pending, merges, freezes, fates, fate, pass, repaints, fresh}
+use Rattle.rules.specs.Pass.{Rule, State, marked, small, large, view, Verdict, stay, target, judged, pending, merges, freezes, fates, fate, pass, repaints, fresh}
 use Rattle.base.proofs.Counting.{case, clash, both, left, right, not-true, not-false, same-test, eqb-yes, yes-eqb, leb-yes, yes-leb, table-at, table-length, any-same}
 use Rattle.rules.proofs.Roots.{join-left, join-right, join-same, join-trans, join-sym, opaque-below, joined-root, root-root, inside-join, join-inside, clear-root}
 use Rattle.rules.proofs.Labels.{label-clear, label-positive, label-joined}
@@ -37,7 +37,7 @@ unfoldable pub groupVerdict : Rule → State → (ℕ → ℕ) → (ℕ → Bool
 groupVerdict rule s group front x false = stay
 groupVerdict rule s group front x true =
     let own = index (at (s .cells) x) in
-    judged rule own (target rule (s .cells) own (table (rule .places) (λ q. front q && any (rule .places) (λ p. eqb (group x) (group p) && rule .adj p q))) (top rule (s .cells)))
+    judged rule own (target rule (s .cells) own (table (rule .places) (λ q. front q && any (rule .places) (λ p. eqb (group x) (group p) && rule .adj p q))))
 
 -- why a pass from s makes the place x large: it is repainted, or its group is small, not repainted, and beside a repainted place of its index
 pub data Grows (rule : Rule) (s : State) (group : ℕ → ℕ) (x : ℕ) : Type 0 where
@@ -208,7 +208,7 @@ module _ (rule : Rule) (symm : Symmetric (rule .adj)) (s : State) (group : ℕ �
         let p = pending-record rule symm s len m e in
         let u = join-small rule symm cells len (join-sym adj cells symm j) (p .little) in
         rw (e, y)
-        ((λ i. judged rule (own i) (target rule cells (own i) (table n (λ q. front q && any-same n (λ p. inside cells (roots n adj cells) m p && adj p q) (λ p. eqb (group x) (group p) && adj p q) (λ p c. ap (λ (t : Bool). t && adj p q) (group-inside x u p c)) i)) (top rule cells)))))
+        ((λ i. judged rule (own i) (target rule cells (own i) (table n (λ q. front q && any-same n (λ p. inside cells (roots n adj cells) m p && adj p q) (λ p. eqb (group x) (group p) && adj p q) (λ p c. ap (λ (t : Bool). t && adj p q) (group-inside x u p c)) i))))))
         (λ z. rw (group-pending x b h ∙ z, z))
       where
         m : ℕ

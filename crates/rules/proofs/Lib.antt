@@ -1,14 +1,15 @@
 pub mod Reading
 pub mod Roots
 pub mod Shown
+pub mod Least
 pub mod Passes
 pub mod Runs
 pub mod Images
 pub mod Grids
 pub mod More
-pub mod Sheets
 pub mod Opacity
 pub mod Freezing
+pub mod Sizes
 pub mod Promises
 pub mod Examples
 pub mod Labels

@@ -1,21 +1,23 @@
--- Opaque cells stay opaque, a region limit of one or less leaves no region small, and a target does not depend on indices past the sheet's. Assumes nothing.
-use Prim.Native.Nat.{ℕ, zero, suc, _≤_, _<_, suc-le-suc}
+-- Opaque cells stay opaque, with a region limit of one or less nothing is small and the sheet comes back, and a target does not depend on indices past the sheet's. Assumes nothing.
+use Prim.Native.Nat.{ℕ, zero, suc, _≤_, _<_, suc-le-suc, zero-le}
 use mathlib.Core.Path.{_≡_, refl, sym, ap, _∙_}
-use mathlib.Core.Bool.{Bool, true, false, false≢true}
+use mathlib.Core.Bool.{Bool, true, false, _&&_, false≢true}
 use mathlib.Core.List.{List}
 use native.Mathlib.Nat.{le-trans, lt-irrefl}
-use native.Mathlib.Decide.{ℕ-discrete}
+use native.Mathlib.Decide.{decLt}
 use native.Mathlib.Omega.{arith}
 use lib.IntN.{ℤ, pos, negsuc}
 use lib.Signed.{nonNeg, ltZ}
 use lib.ListN.{length}
-use Rattle.base.specs.Places.{greatest}
-use Rattle.rules.specs.Regions.{at, opaque, index, here, Symmetric}
-use Rattle.rules.specs.Pass.{Rule, State, View, marked, size, few, small, top, frequent, choose, target, fates, pass, repaints, moves, clean}
-use Rattle.base.proofs.Counting.{case, leb-yes, count-some, greatest-above}
+use Rattle.base.specs.Places.{count, greatest}
+use Rattle.rules.specs.Palette.{firstLeast}
+use Rattle.rules.specs.Regions.{at, opaque, index, here, roots, first, Symmetric}
+use Rattle.rules.specs.Pass.{Rule, State, View, marked, size, few, small, smalls, top, frequent, target, fates, pass, repaints, moves, fresh, clean}
+use Rattle.base.proofs.Counting.{case, clash, right, leb-yes, count-some, count-yes, greatest-above}
+use Rattle.rules.proofs.Least.{least-past}
 use Rattle.rules.proofs.Roots.{opaque-below, join-inside}
 use Rattle.rules.proofs.Passes.{pass-length, large-opaque, small-opaque, small-few, repainted, repainted-large, unpainted-kept, frequent-voter}
-use Rattle.rules.proofs.Runs.{clean-go, clean-stop}
+use Rattle.rules.proofs.Runs.{clean-go, clean-stop, runs-settled, fresh-frozen}
 
 module _ (rule : Rule) (symm : Symmetric (rule .adj)) where
   -- a pass keeps opaque cells opaque and transparent ones transparent
@@ -48,6 +50,24 @@ module _ (rule : Rule) (symm : Symmetric (rule .adj)) where
       never (pos b) u a c w = let m = leb-yes {m = suc b} {n = 2} u in let j = leb-yes {m = suc a} {n = b} w in omega arith
       never (negsuc b) u a c w = false≢true w
 
+-- so there are no small regions
+no-smalls : (rule : Rule) → Symmetric (rule .adj) → ltZ (rule .limit) (pos 2) ≡ true → (cells : List ℤ) → length cells ≡ rule .places → smalls rule cells ≤ 0
+unfolding smalls
+no-smalls rule symm l cells len = elim (decLt 0 (smalls rule cells)) [ yes h ↦ absurd (some h) | no d ↦ omega arith ]
+  where
+    some : 0 < smalls rule cells → ⊥
+    some h =
+        let f : ℕ → Bool = first cells (roots (rule .places) (rule .adj) cells) in
+        let w = count-yes (rule .places) (λ p. f p && small rule cells p) h in
+        clash (right (f (w .0)) (small rule cells (w .0)) (w .2)) (none-small rule symm l cells len (w .0))
+
+-- with a region limit of one or less the sheet comes back, and no pass repaints
+pub limit-one : (rule : Rule) → Symmetric (rule .adj) → ltZ (rule .limit) (pos 2) ≡ true → (cells : List ℤ) → length cells ≡ rule .places → (k : ℕ) →
+    clean rule k (fresh rule cells) ≡ record { state = fresh rule cells; count = 0 }
+unfolding clean fresh
+limit-one rule symm l cells len k =
+    sym (runs-settled rule symm 0 k (fresh rule cells) len (fresh-frozen rule symm cells len) (no-smalls rule symm l cells len) zero-le)
+
 -- ---- the choice of a target
 
 module _ (rule : Rule) (v : View) where
@@ -62,12 +82,7 @@ module _ (rule : Rule) (v : View) where
       (λ z. z)
 
   -- looking at indices past those on the sheet changes no target
-  pub target-past : (voters : List Bool) → ((p : ℕ) → p < rule .places → marked voters p ≡ true → opaque (v .cells) p ≡ true) → (own k : ℕ) → top rule (v .cells) ≤ k → target rule (v .cells) own voters k ≡ target rule (v .cells) own voters (top rule (v .cells))
-  unfolding target choose
-  target-past voters o own zero h = ap (target rule (v .cells) own voters) (let e : top rule (v .cells) ≡ 0 = omega arith in sym e)
-  target-past voters o own (suc k) h =
-      elim (ℕ-discrete (top rule (v .cells)) (suc k)) [
-        | yes e ↦ ap (target rule (v .cells) own voters) (sym e)
-        | no d ↦ (let l : top rule (v .cells) ≤ k = omega arith in
-            ap (λ (b : Bool). choose rule own b k (target rule (v .cells) own voters k)) (past voters o k l) ∙ target-past voters o own k l)
-      ]
+  pub target-past : (voters : List Bool) → ((p : ℕ) → p < rule .places → marked voters p ≡ true → opaque (v .cells) p ≡ true) → (own k : ℕ) → top rule (v .cells) ≤ k →
+      firstLeast (frequent rule (v .cells) voters) (rule .dist own) k ≡ target rule (v .cells) own voters
+  unfolding target
+  target-past voters o own k h = least-past _ _ (top rule (v .cells)) k h (λ c l m. past voters o c l)

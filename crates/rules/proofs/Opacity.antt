@@ -1,7 +1,7 @@
 -- What `run` does to opaque and transparent cells. Assumes nothing.
 use Prim.Native.Nat.{ℕ, _+_, _-_, _*_, _/_, _%_, _≤_, _<_}
 use mathlib.Core.Path.{_≡_, refl, sym, ap, _∙_, subst}
-use mathlib.Core.Bool.{Bool, true, false, not, _&&_, _||_, cond}
+use mathlib.Core.Bool.{Bool, true, false, not, _&&_, _||_, cond, and-false}
 use mathlib.Core.List.{List, [], _∷_}
 use native.Mathlib.Decide.{decLt}
 use native.Mathlib.Omega.{arith}
@@ -11,16 +11,17 @@ use lib.Dec.{leb, ltb}
 use lib.ListN.{length, getD, List·getD-eq-default}
 use Rattle.base.specs.Places.{table, any}
 use Rattle.base.proofs.Counting.{case, left, or-left, or-right, any-no, any-same, table-at, table-length}
-use Rattle.rules.specs.declared.PostConfig.{PostConfig}
-use Rattle.rules.specs.declared.Outline.{Outline}
-use Rattle.rules.specs.Sheet.{Sheet, area}
+use Rattle.rules.specs.declared.Limits.{Limits}
+use Rattle.rules.specs.declared.Drawing.{Drawing}
+use Rattle.rules.specs.Sheet.{Sheet, area, sheetIn}
 use Rattle.rules.specs.Palette.{Palette}
 use Rattle.rules.specs.Grid.{four, onEdge}
 use Rattle.rules.specs.Regions.{at, opaque}
 use Rattle.rules.specs.Pass.{fresh}
 use Rattle.rules.specs.Corners.{same, Corner, corners, arms, around, goesOn, opposite, isCorner, trimmedBy, trimmed, trim}
 use Rattle.rules.specs.Outline.{touches, asked, pads, paddedAt, padded, canvas, ring, hasRing, inked, drawn, outline, chosenIndex, lineColour, choice}
-use Rattle.rules.specs.Run.{Limits, ruleOn, tidy, tidyIf, limitsOf, toned, padAllowed, outlineIf, process}
+use Rattle.rules.specs.Calls.{RunCall}
+use Rattle.rules.specs.Run.{ruleOn, ruleFor, cleanSheet, cleanSheetIf, limitsOf, tonedPalette, drawingOf, outlineIf, firstCleaning, outlinedRun, secondCleaning, process}
 use Rattle.rules.specs.Claims.{KeepsOpaque}
 use Rattle.rules.proofs.Grids.{eight-symmetric}
 use Rattle.rules.proofs.More.{clean-opaque}
@@ -54,10 +55,10 @@ retold s f len e = record { height = refl; width = refl; full = table-length (s 
 
 -- ---- the steps keep cells opaque and transparent
 
-tidy-alike : (k : ℕ) (palette : Palette) (limits : Limits) (s : Sheet) → length (s .cells) ≡ area s → Alike s (tidy k palette limits s .sheet)
-unfolding tidy ruleOn fresh area
-tidy-alike k palette limits s len =
-    let rule = ruleOn (area s) (s .width) palette limits in
+clean-alike : (k : ℕ) (palette : Palette) (limits : Limits) (s : Sheet) → length (s .cells) ≡ area s → Alike s (cleanSheet k palette limits s .sheet)
+unfolding cleanSheet ruleFor ruleOn fresh area
+clean-alike k palette limits s len =
+    let rule = ruleFor palette limits s in
     record {
       height = refl;
       width = refl;
@@ -65,10 +66,10 @@ tidy-alike k palette limits s len =
       opaq = clean-opaque rule (eight-symmetric (s .width)) k (fresh rule (s .cells)) len;
     }
 
-pub tidied-alike : (on : Bool) (k : ℕ) (palette : Palette) (limits : Limits) (s : Sheet) → length (s .cells) ≡ area s → Alike s (tidyIf on k palette limits s .sheet)
-unfolding tidyIf
-tidied-alike true k palette limits s len = tidy-alike k palette limits s len
-tidied-alike false k palette limits s len = itself s len
+pub cleaned-alike : (on : Bool) (k : ℕ) (palette : Palette) (limits : Limits) (s : Sheet) → length (s .cells) ≡ area s → Alike s (cleanSheetIf on k palette limits s .sheet)
+unfolding cleanSheetIf
+cleaned-alike true k palette limits s len = clean-alike k palette limits s len
+cleaned-alike false k palette limits s len = itself s len
 
 -- the cell that a corner takes is opaque
 corner-opaque : (s : Sheet) (p : ℕ) (c : Corner) (a b : ℤ) → isCorner s p c a b ≡ true → nonNeg b ≡ true
@@ -135,9 +136,9 @@ module _ {s t : Sheet} (k : Alike s t) where
   unfolding touches onEdge area
   touches-same = ap touches same-shape ∙ any-same (s .height * s .width) _ _ (λ p h. ap (λ (b : Bool). b && onEdge (s .height) (s .width) p) (k .opaq p))
 
-  pub pads-same : (allowed : Bool) (how : Outline) → pads allowed how t ≡ pads allowed how s
+  pub pads-same : (how : Drawing) → pads how t ≡ pads how s
   unfolding pads
-  pads-same allowed how = ap (λ (b : Bool). allowed && asked how && b) touches-same
+  pads-same how = ap (λ (b : Bool). how .«allow_pad» && asked (how .outline) && b) touches-same
 
   pub ring-same : (p : ℕ) → ring t p ≡ ring s p
   unfolding ring area
@@ -206,29 +207,27 @@ plain-shown s len b clear =
     record { height = refl; width = refl; full = len; opaq = λ p h. sym (ap (λ (r : Bool). opaque (s .cells) p || r) (clear p h) ∙ or-false (opaque (s .cells) p)) }
 
 -- an outline call
-outline-shown : (allowed fixed : Bool) (how : Outline) (s : Sheet) (palette : Palette) → length (s .cells) ≡ area s →
-    Shown true (canvas (pads allowed how s) s) (outline allowed fixed how s palette .sheet)
+outline-shown : (may : ℕ → Bool) (how : Drawing) (palette : Palette) (s : Sheet) → length (s .cells) ≡ area s →
+    Shown true (canvas (pads how s) s) (outline may how palette s .sheet)
 unfolding outline drawn hasRing
-outline-shown allowed fixed how s palette len =
-    let on = canvas (pads allowed how s) s in
-    let c = lineColour palette how in
+outline-shown may how palette s len =
+    let on = canvas (pads how s) s in
     case (any (area on) (ring on))
-    (λ y. rw y (inked-shown on (chosenIndex palette (choice fixed palette c))))
-    (λ z. rw z (plain-shown on (canvas-full (pads allowed how s) s len) true (any-no (area on) (ring on) z)))
+    (λ y. rw y (inked-shown on (chosenIndex palette (choice may (how .«fixed_palette») palette (lineColour palette (how .outline))))))
+    (λ z. rw z (plain-shown on (canvas-full (pads how s) s len) true (any-no (area on) (ring on) z)))
 
-not-asked : (allowed : Bool) (how : Outline) (s : Sheet) → asked how ≡ false → pads allowed how s ≡ false
+not-asked : (how : Drawing) (s : Sheet) → asked (how .outline) ≡ false → pads how s ≡ false
 unfolding pads
-not-asked true how s z = rw z
-not-asked false how s z = refl
+not-asked how s z = rw (z, and-false (how .«allow_pad»))
 
 -- an outline where one is asked for
-pub line-shown : (fixed : Bool) (config : PostConfig) (margin : ℤ) (s : Sheet) (palette : Palette) → length (s .cells) ≡ area s →
-    Shown (asked (config .outline)) (canvas (pads (padAllowed config margin) (config .outline) s) s) (outlineIf fixed config margin s palette .sheet)
+pub line-shown : (may : ℕ → Bool) (how : Drawing) (palette : Palette) (s : Sheet) → length (s .cells) ≡ area s →
+    Shown (asked (how .outline)) (canvas (pads how s) s) (outlineIf may how palette s .sheet)
 unfolding outlineIf canvas
-line-shown fixed config margin s palette len =
-    case (asked (config .outline))
-    (λ y. rw y (outline-shown (padAllowed config margin) fixed (config .outline) s palette len))
-    (λ z. rw (z, not-asked (padAllowed config margin) (config .outline) s z) (plain-shown s len false (λ p h. refl)))
+line-shown may how palette s len =
+    case (asked (how .outline))
+    (λ y. rw y (outline-shown may how palette s len))
+    (λ z. rw (z, not-asked how s z) (plain-shown s len false (λ p h. refl)))
 
 -- the canvas of a sheet and of one alike show the same
 shown-alike : {b : Bool} {on on′ t : Sheet} → Alike on on′ → Shown b on′ t → Shown b on t
@@ -248,43 +247,40 @@ pub cut-alike : (on : Bool) (s : Sheet) → length (s .cells) ≡ area s → Ali
 cut-alike true s len = trim-alike s len
 cut-alike false s len = itself s len
 
-module _ (config : PostConfig) (saturated fixed : Bool) (margin : ℤ) (s : Sheet) (palette : Palette) (len : length (s .cells) ≡ area s) where
+-- a sheet that is like the one that came, outlined where that is asked for
+met-alike : (may : ℕ → Bool) (how : Drawing) (palette : Palette) {s t : Sheet} → length (s .cells) ≡ area s → Alike s t → Shown (asked (how .outline)) (canvas (pads how s) s) (outlineIf may how palette t .sheet)
+met-alike may how palette {s} {t} len k =
+    shown-alike (canvas-alike k len (pads how s))
+    (subst (λ (b : Bool). Shown (asked (how .outline)) (canvas b t) (outlineIf may how palette t .sheet)) (pads-same k how) (line-shown may how palette t (k .full)))
+
+module _ (c : RunCall) (len : length (sheetIn (c .lent) .cells) ≡ area (sheetIn (c .lent))) where
   abbrev before : Sheet
-  before = canvas (pads (padAllowed config margin) (config .outline) s) s
+  before = canvas (pads (drawingOf c) (sheetIn (c .lent))) (sheetIn (c .lent))
 
-  abbrev ink : Palette
-  ink = toned (saturated || fixed) config palette
+  abbrev outlined : Bool
+  outlined = asked (c .config .outline)
 
-  -- after a cleaning of at most k passes, corners and outline
-  module _ (k : ℕ) where
-    abbrev one : Sheet
-    one = tidyIf (config .«remove_orphans») k ink (limitsOf config) s .sheet
-
-    abbrev cut : Sheet
-    cut = cond (config .«fix_jaggies») (trim one) one
-
-    pub met-shown : Shown (asked (config .outline)) before (outlineIf fixed config margin cut ink .sheet)
-    met-shown =
-        let a = tidied-alike (config .«remove_orphans») k ink (limitsOf config) s len in
-        let c = trans a (cut-alike (config .«fix_jaggies») one (a .full)) in
-        let l = line-shown fixed config margin cut ink (c .full) in
-        shown-alike (canvas-alike c len (pads (padAllowed config margin) (config .outline) s))
-        (subst (λ (b : Bool). Shown (asked (config .outline)) (canvas b cut) (outlineIf fixed config margin cut ink .sheet)) (pads-same c (padAllowed config margin) (config .outline)) l)
+  -- after the first cleaning, corners and outline
+  pub met-shown : Shown outlined before (outlinedRun c .sheet)
+  unfolding outlinedRun firstCleaning drawingOf
+  met-shown =
+      let a = cleaned-alike (c .config .«remove_orphans») _ (tonedPalette c) (limitsOf (c .config)) (sheetIn (c .lent)) len in
+      met-alike _ (drawingOf c) (tonedPalette c) len (trans a (cut-alike (c .config .«fix_jaggies») _ (a .full)))
 
   -- and after the second cleaning
-  pub run-shown : Shown (asked (config .outline)) before (process config saturated fixed margin s palette .sheet)
-  unfolding process
-  run-shown = let m = met-shown _ in then m (tidied-alike _ _ _ _ _ (m .full))
+  pub run-shown : Shown outlined before (process c .sheet)
+  unfolding process secondCleaning
+  run-shown = let m = met-shown in then m (cleaned-alike _ _ _ _ _ (m .full))
 
   -- `run` keeps opaque cells opaque, and makes the ring's cells opaque, if an outline is asked for, and no other
-  pub run-opaque : KeepsOpaque (asked (config .outline)) before (process config saturated fixed margin s palette .sheet)
+  pub run-opaque : KeepsOpaque outlined before (process c .sheet)
   run-opaque =
       let r = run-shown in
       record {
         height = r .height;
         width = r .width;
-        stays = λ p h o. r .opaq p h ∙ or-left (asked (config .outline) && ring before p) o;
+        stays = λ p h o. r .opaq p h ∙ or-left (outlined && ring before p) o;
         turns = λ p h z.
-            let e = r .opaq p h ∙ ap (λ (b : Bool). b || (asked (config .outline) && ring before p)) z in
+            let e = r .opaq p h ∙ ap (λ (b : Bool). b || (outlined && ring before p)) z in
             ((λ y. sym e ∙ y), (λ y. e ∙ y));
       }

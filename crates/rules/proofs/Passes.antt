@@ -3,14 +3,13 @@
 -- B. a repainted cell is in a large region afterwards, and has the index that a large region had before;
 -- C. a small region afterwards was, as the same set of cells, a small region before, and was not repainted.
 -- Assumes nothing.
-use Prim.Native.Nat.{ℕ, zero, suc, _≤_, _<_, suc-le-suc}
+use Prim.Native.Nat.{ℕ, suc, _≤_, _<_, suc-le-suc}
 use mathlib.Core.Path.{_≡_, refl, sym, ap, _∙_}
 use mathlib.Core.Logic.{_⊎_, inl, inr, ⊎-elim, _↔_}
-use mathlib.Core.Bool.{Bool, true, false, not, _&&_, _||_, and-false, true≢false, false≢true}
+use mathlib.Core.Bool.{Bool, true, false, not, _&&_, _||_, cond, and-false, true≢false, false≢true}
 use mathlib.Core.List.{List}
 use mathlib.Core.Option.{Option, none, some}
-use native.Mathlib.Nat.{le-trans, le-antisymm, le-step, le-of-suc-le-suc, not-suc-le-zero, lt-suc-self, lt-of-le-of-lt}
-use native.Mathlib.Decide.{ℕ-discrete}
+use native.Mathlib.Nat.{le-trans, le-antisymm, le-of-suc-le-suc, lt-of-le-of-lt}
 use native.Mathlib.Omega.{arith}
 use lib.IntN.{ℤ, pos, negsuc}
 use lib.Signed.{nonNeg, ltZ}
@@ -20,32 +19,16 @@ use lib.ListN.{length, getD, List·getD-eq-default}
 use lib.Seq.{ext-getD}
 use Rattle.base.specs.Places.{table, any}
 use Rattle.rules.specs.Regions.{at, opaque, index, Joined, here, step, held, roots, root, inside, first, Symmetric}
-use Rattle.rules.specs.Pass.{Rule, State, View, marked, size, few, isSmall, isLarge, small, large, smalls, view, Verdict, stay, merge, freeze, voter, votes, most, top, frequent, choose, target, judged, pending, decided, verdict, painted, merges, freezes, fates, fate, applied, pass, repaints}
+use Rattle.rules.specs.Pass.{Rule, State, View, marked, size, few, isSmall, isLarge, small, large, smalls, view, Verdict, stay, merge, freeze, voter, votes, most, top, frequent, target, judged, pending, verdict, painted, merges, freezes, fates, fate, applied, pass, repaints}
 use Rattle.rules.specs.Claims.{Apart}
 use Rattle.rules.proofs.Shown.{Frozen, Left, apart, frozen, barred}
 use Rattle.base.proofs.Counting.{case, clash, both, left, right, not-true, not-false, eqb-yes, yes-eqb, leb-yes, yes-leb, no-leb, table-at, table-length, any-yes, yes-any, any-no, count-mono, count-less, count-some, count-yes, greatest-above, greatest-at, either, or-left, or-right}
+use Rattle.rules.proofs.Least.{least-some, least-none}
 use Rattle.rules.proofs.Roots.{to-link, join-left, join-right, join-same, join-trans, join-sym, opaque-below, joined-root, root-below, root-le, clear-root, join-root, root-first, root-root, inside-join, join-inside, lift-join}
 
 -- ---- verdicts
 
 module _ (rule : Rule) (v : View) where
-  choose-some : (own : ℕ) (b : Bool) (a : ℕ) (o : Option ℕ) (c : ℕ) → choose rule own b a o ≡ some c → ((b ≡ true) × (a ≡ c)) ⊎ (o ≡ some c)
-  unfolding choose
-  choose-some own false a o c e = inr e
-  choose-some own true a none c e = inl (refl, (cc))
-  choose-some own true a (some b) c e =
-      case (lt (rule .dist own a) (rule .dist own b))
-      (λ y. inl (refl, (let e′ : some a ≡ some c = rw y at e in cc)))
-      (λ z. inr (rw z at e))
-
-  pub target-some : (own : ℕ) (voters : List Bool) (k c : ℕ) → target rule (v .cells) own voters k ≡ some c → (c < k) × (frequent rule (v .cells) voters c ≡ true)
-  unfolding target
-  target-some own voters zero c e = let z : _≡_ {A = ℕ} 0 1 = cc in absurd (omega arith)
-  target-some own voters (suc k) c e =
-      ⊎-elim (λ h. (rw (← (h .1)) (lt-suc-self k), rw (h .1) at (h .0)))
-      (λ h. let w = target-some own voters k c h in (le-step (w .0), w .1))
-      (choose-some own (frequent rule (v .cells) voters k) k (target rule (v .cells) own voters k) c e)
-
   pub frequent-voter : (voters : List Bool) (c : ℕ) → frequent rule (v .cells) voters c ≡ true → (q : ℕ) × (q < rule .places) × (marked voters q ≡ true) × (index (at (v .cells) q) ≡ c)
   unfolding frequent votes
   frequent-voter voters c e =
@@ -58,14 +41,18 @@ module _ (rule : Rule) (v : View) where
   judged-merge own (some c) e =
       case (lt (rule .dist own c) (rule .reach)) (λ y. (c, refl, λ z. rw y)) (λ z. absurd (false≢true (rw z at e)))
 
-  decided-merge : (m : ℕ) (b : Bool) → merges (decided rule v m b) ≡ true → (b ≡ true) × ((q : ℕ) × (q < rule .places) × (voter rule v m q ≡ true) × ((z : ℤ) → painted (decided rule v m b) z ≡ pos (index (at (v .cells) q))))
-  unfolding decided merges marked
+  -- the verdict on a region, pending or not
+  abbrev decided : ℕ → Bool → Verdict
+  decided m b = let own = index (at (v .cells) m) in cond b (judged rule own (target rule (v .cells) own (table (rule .places) (voter rule v m)))) stay
+
+  decided-merge : (m : ℕ) (b : Bool) → merges (decided m b) ≡ true → (b ≡ true) × ((q : ℕ) × (q < rule .places) × (voter rule v m q ≡ true) × ((z : ℤ) → painted (decided m b) z ≡ pos (index (at (v .cells) q))))
+  unfolding target merges marked
   decided-merge m false e = absurd (false≢true e)
   decided-merge m true e =
       let own = index (at (v .cells) m) in
       let voters = table (rule .places) (voter rule v m) in
-      let j = judged-merge own (target rule (v .cells) own voters (top rule (v .cells))) e in
-      let w = frequent-voter voters (j .0) (target-some own voters (top rule (v .cells)) (j .0) (j .1) .1) in
+      let j = judged-merge own (target rule (v .cells) own voters) e in
+      let w = frequent-voter voters (j .0) (least-some _ _ _ (j .0) (j .1) .1) in
       (refl, (w .0, w .1, sym (table-at (rule .places) (voter rule v m) false (w .0) (w .1)) ∙ w .2, λ z. j .2 z ∙ ap pos (sym (w .3))))
 
   -- a region that is repainted was pending, and takes the index of some voter
@@ -83,28 +70,14 @@ module _ (rule : Rule) (v : View) where
 
   -- a region that is frozen was pending
   pub freeze-why : (m : ℕ) → freezes (verdict rule v m) ≡ true → pending rule v m ≡ true
-  unfolding verdict decided freezes
+  unfolding verdict freezes
   freeze-why m e = go (pending rule v m) e
     where
-      go : (b : Bool) → freezes (decided rule v m b) ≡ true → b ≡ true
+      go : (b : Bool) → freezes (decided m b) ≡ true → b ≡ true
       go true u = refl
       go false u = u
 
-  choose-none : (own : ℕ) (b : Bool) (c : ℕ) (o : Option ℕ) → choose rule own b c o ≡ none → (b ≡ false) × (o ≡ none)
-  unfolding choose
-  choose-none own false c o e = (refl, e)
-  choose-none own true c none e = let z : _≡_ {A = ℕ} 0 1 = cc in absurd (omega arith)
-  choose-none own true c (some b) e = let z : _≡_ {A = ℕ} 0 1 = cc in absurd (omega arith)
-
-  -- where there is no target, no index is a most frequent one
-  pub target-none : (own : ℕ) (voters : List Bool) (k : ℕ) → target rule (v .cells) own voters k ≡ none → (c : ℕ) → c < k → frequent rule (v .cells) voters c ≡ false
-  unfolding target
-  target-none own voters zero e c h = absurd (not-suc-le-zero h)
-  target-none own voters (suc k) e c h =
-      let w = choose-none own (frequent rule (v .cells) voters k) k (target rule (v .cells) own voters k) e in
-      elim (ℕ-discrete c k) [ yes u ↦ ap (frequent rule (v .cells) voters) u ∙ w .0 | no d ↦ target-none own voters k (w .1) c (omega arith) ]
-
-  -- and no place is marked as a voter
+  -- where a place is marked as a voter, some index is a most frequent one
   pub frequent-some : (voters : List Bool) (q : ℕ) → q < rule .places → marked voters q ≡ true → ((p : ℕ) → p < rule .places → marked voters p ≡ true → opaque (v .cells) p ≡ true) → (c : ℕ) × (c < top rule (v .cells)) × (frequent rule (v .cells) voters c ≡ true)
   unfolding top frequent most votes
   frequent-some voters q h y o =
@@ -122,26 +95,26 @@ module _ (rule : Rule) (v : View) where
   judged-cases own none = inr (inr refl)
   judged-cases own (some c) = case (lt (rule .dist own c) (rule .reach)) (λ y. inl (rw y)) (λ z. inr (inl (rw z)))
 
-  no-voter : (m own : ℕ) → ((p : ℕ) → p < rule .places → voter rule v m p ≡ true → opaque (v .cells) p ≡ true) → target rule (v .cells) own (table (rule .places) (voter rule v m)) (top rule (v .cells)) ≡ none → (q : ℕ) → q < rule .places → voter rule v m q ≡ false
-  unfolding marked
+  no-voter : (m own : ℕ) → ((p : ℕ) → p < rule .places → voter rule v m p ≡ true → opaque (v .cells) p ≡ true) → target rule (v .cells) own (table (rule .places) (voter rule v m)) ≡ none → (q : ℕ) → q < rule .places → voter rule v m q ≡ false
+  unfolding target marked
   no-voter m own o e q h =
       let n = rule .places in
       let voters = table n (voter rule v m) in
       let is : (p : ℕ) → p < n → marked voters p ≡ voter rule v m p = (λ p k. table-at n (voter rule v m) false p k) in
       case (voter rule v m q)
       (λ y. let w = frequent-some voters q h (is q h ∙ y) (λ p k u. o p k (sym (is p k) ∙ u)) in
-      clash (w .2) (target-none own voters (top rule (v .cells)) e (w .0) (w .1)))
+      clash (w .2) (least-none _ _ _ e (w .0) (w .1)))
       (λ z. z)
 
   -- a pending region is repainted, frozen, or has no voter
   pub pending-then : (m : ℕ) → pending rule v m ≡ true → ((p : ℕ) → p < rule .places → voter rule v m p ≡ true → opaque (v .cells) p ≡ true) → (merges (verdict rule v m) ≡ true) ⊎ ((freezes (verdict rule v m) ≡ true) ⊎ ((q : ℕ) → q < rule .places → voter rule v m q ≡ false))
-  unfolding verdict decided
+  unfolding verdict
   pending-then m e o = go (pending rule v m) e
     where
-      go : (b : Bool) → b ≡ true → (merges (decided rule v m b) ≡ true) ⊎ ((freezes (decided rule v m b) ≡ true) ⊎ ((q : ℕ) → q < rule .places → voter rule v m q ≡ false))
+      go : (b : Bool) → b ≡ true → (merges (decided m b) ≡ true) ⊎ ((freezes (decided m b) ≡ true) ⊎ ((q : ℕ) → q < rule .places → voter rule v m q ≡ false))
       go true u =
           ⊎-elim inl (λ w. inr (⊎-elim inl (λ z. inr (no-voter m (index (at (v .cells) m)) o z)) w))
-          (judged-cases (index (at (v .cells) m)) (target rule (v .cells) (index (at (v .cells) m)) (table (rule .places) (voter rule v m)) (top rule (v .cells))))
+          (judged-cases (index (at (v .cells) m)) (target rule (v .cells) (index (at (v .cells) m)) (table (rule .places) (voter rule v m))))
       go false u = absurd (false≢true u)
 
   -- a small region that is not pending is locked or has a frozen cell

@@ -8,10 +8,10 @@ use native.Mathlib.Omega.{arith}
 use lib.IntN.{ℤ}
 use lib.ListN.{length}
 use Rattle.base.specs.Places.{count}
-use Rattle.rules.specs.Regions.{at, here, first, Symmetric}
+use Rattle.rules.specs.Regions.{at, here, Symmetric}
 use Rattle.rules.specs.Pass.{Rule, State, marked, small, large, smalls, merges, fates, fate, pass, repaints, moves, fresh, clean}
 use Rattle.rules.specs.Claims.{repaintings}
-use Rattle.rules.proofs.Shown.{cleaned, Left, OneRun, TwoRuns}
+use Rattle.rules.proofs.Shown.{Left}
 use Rattle.base.proofs.Counting.{case, clash, table-at, table-length, any-yes, any-no}
 use Rattle.rules.proofs.Roots.{join-right, opaque-below}
 use Rattle.rules.proofs.Passes.{pass-length, large-kept, large-stays, repainted, repainted-large, not-both, repaints-below, repainted-small, unpainted-kept, large-source, fewer-smalls, frozen-length, still, small-counted, Whole, whole-stays, left-why}
@@ -79,7 +79,7 @@ module _ (rule : Rule) (symm : Symmetric (rule .adj)) where
       (λ y. paint-go rule k s x y ∙ rw (u, run-never k (pass rule s) (pass-length rule symm s len) x (large-stays rule symm s len x h)))
       (λ z. paint-stop rule k s x z ∙ rw u)
 
-  run-once : (k : ℕ) (s : State) → length (s .cells) ≡ rule .places → (x : ℕ) → repaintings rule k s x ≤ 1
+  pub run-once : (k : ℕ) (s : State) → length (s .cells) ≡ rule .places → (x : ℕ) → repaintings rule k s x ≤ 1
   unfolding repaintings
   run-once zero s len x = zero-le
   run-once (suc k) s len x =
@@ -103,7 +103,7 @@ module _ (rule : Rule) (symm : Symmetric (rule .adj)) where
       (λ z. rw (clean-stop rule k s z) (unpainted-kept rule symm s len x (moves-no s len z x)))
 
   -- a repainted cell ends in a large region, with an index that a large region had at the start
-  run-source : (k : ℕ) (s : State) → length (s .cells) ≡ rule .places → (x : ℕ) → 0 < repaintings rule k s x → (large rule (clean rule k s .state .cells) x ≡ true) × ((y : ℕ) × (large rule (s .cells) y ≡ true) × (at (clean rule k s .state .cells) x ≡ at (s .cells) y))
+  pub run-source : (k : ℕ) (s : State) → length (s .cells) ≡ rule .places → (x : ℕ) → 0 < repaintings rule k s x → (large rule (clean rule k s .state .cells) x ≡ true) × ((y : ℕ) × (large rule (s .cells) y ≡ true) × (at (clean rule k s .state .cells) x ≡ at (s .cells) y))
   unfolding repaintings clean
   run-source zero s len x h = absurd (not-suc-le-zero h)
   run-source (suc k) s len x h =
@@ -120,7 +120,7 @@ module _ (rule : Rule) (symm : Symmetric (rule .adj)) where
       (i .0, (j .0, j .1, i .1 .2 ∙ j .2)))))
       (λ z. let h′ : 0 < 0 + 0 = rw (paint-stop rule k s x z, moves-no s len z x) at h in absurd (omega arith))
 
-  run-bounded : (k : ℕ) (s : State) → length (s .cells) ≡ rule .places → clean rule k s .count ≤ smalls rule (s .cells)
+  pub run-bounded : (k : ℕ) (s : State) → length (s .cells) ≡ rule .places → clean rule k s .count ≤ smalls rule (s .cells)
   unfolding clean
   run-bounded zero s len = zero-le
   run-bounded (suc k) s len =
@@ -134,7 +134,7 @@ module _ (rule : Rule) (symm : Symmetric (rule .adj)) where
 
   -- ---- two runs
 
-  runs-large : (p q : ℕ) (s : State) → length (s .cells) ≡ rule .places → p ≤ q → (x : ℕ) → large rule (clean rule p s .state .cells) x ≡ true → at (clean rule p s .state .cells) x ≡ at (clean rule q s .state .cells) x
+  pub runs-large : (p q : ℕ) (s : State) → length (s .cells) ≡ rule .places → p ≤ q → (x : ℕ) → large rule (clean rule p s .state .cells) x ≡ true → at (clean rule p s .state .cells) x ≡ at (clean rule q s .state .cells) x
   unfolding clean
   runs-large zero q s len h x g = sym (run-large q s len x g .0)
   runs-large (suc p) zero s len h x g = absurd (not-suc-le-zero h)
@@ -145,7 +145,7 @@ module _ (rule : Rule) (symm : Symmetric (rule .adj)) where
       (λ z. rw (clean-stop rule p s z, clean-stop rule q s z))
 
   -- with as many passes as small regions, more passes change nothing
-  runs-settled : (p q : ℕ) (s : State) → length (s .cells) ≡ rule .places → length (s .frozen) ≡ rule .places → smalls rule (s .cells) ≤ p → p ≤ q → clean rule p s ≡ clean rule q s
+  pub runs-settled : (p q : ℕ) (s : State) → length (s .cells) ≡ rule .places → length (s .frozen) ≡ rule .places → smalls rule (s .cells) ≤ p → p ≤ q → clean rule p s ≡ clean rule q s
   unfolding clean
   runs-settled zero zero s len flen h l = refl
   runs-settled zero (suc q) s len flen h l =
@@ -162,7 +162,7 @@ module _ (rule : Rule) (symm : Symmetric (rule .adj)) where
       (λ z. rw (clean-stop rule p s z, clean-stop rule q s z))
 
   -- and each small region that is left has its reason
-  runs-left : (p : ℕ) (s : State) → length (s .cells) ≡ rule .places → Whole rule s → smalls rule (s .cells) ≤ p → (x : ℕ) → small rule (clean rule p s .state .cells) x ≡ true → Left rule (clean rule p s .state) x
+  pub runs-left : (p : ℕ) (s : State) → length (s .cells) ≡ rule .places → Whole rule s → smalls rule (s .cells) ≤ p → (x : ℕ) → small rule (clean rule p s .state .cells) x ≡ true → Left rule (clean rule p s .state) x
   unfolding clean
   runs-left zero s len whole h x g = let k = small-counted rule symm (s .cells) len x g in absurd (omega arith)
   runs-left (suc p) s len whole h x g =
@@ -173,35 +173,14 @@ module _ (rule : Rule) (symm : Symmetric (rule .adj)) where
       (runs-left p (pass rule s) (pass-length rule symm s len) (whole-stays rule symm s len whole) (omega arith) x (rw (clean-go rule p s y) at g)))
       (λ z. rw (clean-stop rule p s z) (left-why rule symm s len whole (moves-no s len z) x (rw (clean-stop rule p s z) at g)))
 
--- ---- the claims
+-- ---- the start: no cell is frozen
 
 module _ (rule : Rule) (symm : Symmetric (rule .adj)) (cells : List ℤ) (len : length cells ≡ rule .places) where
-  fresh-frozen : length (fresh rule cells .frozen) ≡ rule .places
+  pub fresh-frozen : length (fresh rule cells .frozen) ≡ rule .places
   unfolding fresh
   fresh-frozen = table-length (rule .places) _
 
-  fresh-whole : Whole rule (fresh rule cells)
+  pub fresh-whole : Whole rule (fresh rule cells)
   unfolding fresh Whole marked
   fresh-whole x y h j e =
       clash e (table-at (rule .places) (λ p. false) false y (opaque-below (rule .places) (rule .adj) cells len y (join-right (rule .adj) cells j)))
-
-  pub one-run : (k : ℕ) → OneRun rule cells k
-  unfolding cleaned fresh
-  one-run k =
-      record {
-        once = run-once rule symm k (fresh rule cells) len;
-        source = λ x h. run-source rule symm k (fresh rule cells) len x h .1;
-        bounded = run-bounded rule symm k (fresh rule cells) len;
-      }
-
-  pub two-runs : (p q : ℕ) → p ≤ q → TwoRuns rule cells p q
-  unfolding cleaned fresh
-  two-runs p q h =
-      record {
-        repainted-same = λ x g. runs-large rule symm p q (fresh rule cells) len h x (run-source rule symm p (fresh rule cells) len x g .0);
-        large-same = runs-large rule symm p q (fresh rule cells) len h;
-        first = one-run p;
-        second = one-run q;
-        settled = λ g. runs-settled rule symm p q (fresh rule cells) len fresh-frozen g h;
-        rest = runs-left rule symm p (fresh rule cells) len fresh-whole;
-      }

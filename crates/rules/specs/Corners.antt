@@ -2,7 +2,7 @@
 use Prim.Native.Nat.{ℕ, _/_, _%_}
 use mathlib.Core.Bool.{Bool, false, not, _&&_, _||_, cond}
 use mathlib.Core.List.{List, [], _∷_}
-use mathlib.Core.Option.{none, some}
+use mathlib.Core.Option.{Option, none, some}
 use lib.Dec.{eqb, ltb}
 use lib.IntN.{ℤ, pos, negsuc, negℤ, _+ℤ_}
 use lib.Signed.{nonNeg}
@@ -23,30 +23,27 @@ pub record Corner : Type 0 where
   pub sy : ℤ
   pub sx : ℤ
 
-abbrev pub one : ℤ
-one = pos 1
-
-abbrev pub minusOne : ℤ
-minusOne = negsuc 0
-
--- the four corners
+-- the four corners; `negsuc 0` is -1
 unfoldable pub corners : List Corner
 corners =
-    record { sy = minusOne; sx = minusOne }
-    ∷ record { sy = minusOne; sx = one }
-    ∷ record { sy = one; sx = minusOne }
-    ∷ record { sy = one; sx = one }
+    record { sy = negsuc 0; sx = negsuc 0 }
+    ∷ record { sy = negsuc 0; sx = pos 1 }
+    ∷ record { sy = pos 1; sx = negsuc 0 }
+    ∷ record { sy = pos 1; sx = pos 1 }
     ∷ []
 
 module _ (s : Sheet) (p : ℕ) where
-  -- the cell that a step from p finds is a; off the grid matches nothing
+  -- the cell that a step from p finds; off the grid there is none
+  unfoldable pub look : ℤ → ℤ → Option ℤ
+  look dy dx = elim (stepTo (s .height) (s .width) (p / s .width) (p % s .width) dy dx) [ none ↦ none | some q ↦ some (at (s .cells) q) ]
+
+  -- it is a; off the grid matches nothing
   unfoldable pub finds : ℤ → ℤ → ℤ → Bool
-  finds dy dx a = elim (stepTo (s .height) (s .width) (p / s .width) (p % s .width) dy dx) [ none ↦ false | some q ↦ same (at (s .cells) q) a ]
+  finds dy dx a = elim (look dy dx) [ none ↦ false | some b ↦ same b a ]
 
   -- the cell that lies opposite the corner, a candidate for B; off the grid a transparent one stands in
   unfoldable pub opposite : Corner → ℤ
-  opposite c =
-      elim (stepTo (s .height) (s .width) (p / s .width) (p % s .width) (negℤ (c .sy)) (negℤ (c .sx))) [ none ↦ minusOne | some q ↦ at (s .cells) q ]
+  opposite c = elim (look (negℤ (c .sy)) (negℤ (c .sx))) [ none ↦ negsuc 0 | some b ↦ b ]
 
   -- both arms of the corner are a
   unfoldable pub arms : Corner → ℤ → Bool

@@ -1,15 +1,16 @@
 -- The entries on sheets and palettes: for each its refusals, and what it answers and leaves in the lent lists. Definitions only. Assumes nothing.
-use Prim.Native.Nat.{ℕ, _*_}
-use mathlib.Core.Bool.{Bool, true, not, _||_}
-use mathlib.Core.List.{List, [], _∷_}
+use Prim.Native.Nat.{ℕ, _≤_}
+use mathlib.Core.Bool.{Bool, true, false, not, _||_}
+use mathlib.Core.List.{List, [], _∷_, _++_}
 use mathlib.Core.Option.{Option}
 use lib.Dec.{ltb}
 use lib.IntN.{ℤ}
 use lib.ListN.{length}
 use lib.Ieee.{Float}
-use Rattle.base.specs.Refusals.{refusal, unless, filling}
+use Rattle.base.specs.Refusals.{Row, refusal, unless, filling}
 use Rattle.base.specs.declared.Filling.{Filling}
 use Rattle.rules.specs.declared.Outline.{Outline}
+use Rattle.rules.specs.declared.Limits.{Limits}
 use Rattle.rules.specs.declared.PostConfig.{PostConfig}
 use Rattle.rules.specs.declared.LineIndex.{LineIndex}
 use Rattle.rules.specs.declared.Facts.{Facts}
@@ -19,49 +20,52 @@ use Rattle.rules.specs.declared.Outlining
 use Rattle.rules.specs.declared.Outlining.{Outlining}
 use Rattle.rules.specs.declared.Processing
 use Rattle.rules.specs.declared.Processing.{Processing}
-use Rattle.rules.specs.Sheet.{Sheet, sheetOf, over, needed}
+use Rattle.rules.specs.Sheet.{Sheet, LentSheet, sheetIn, over, needed}
 use Rattle.rules.specs.Palette.{Palette, outOfRange, between, saturate}
 use Rattle.rules.specs.Corners.{trim}
-use Rattle.rules.specs.Outline.{asked, pads, canvas, outline}
-use Rattle.rules.specs.Run.{Limits, tidy, toned, padAllowed, process}
-use Rattle.rules.specs.Rows.{tooLarge, tooShort, cramped, badPalette, badColour, badSetting, badDarkening, badIndex, noEntry}
+use Rattle.rules.specs.Outline.{asked, pads, canvas, Outlined, outline}
+use Rattle.rules.specs.Calls.{OrphansCall, JaggiesCall, OutlineCall, RunCall}
+use Rattle.rules.specs.Run.{CleanedSheet, cleanSheet, toned, drawingOf, process}
+use Rattle.rules.specs.Rows.{sheetRows, paletteRows, badDarkening, badIndex, noEntry}
+
+-- rows 1 to 3 of a lent sheet
+abbrev pub lentRows : LentSheet → Bool → List Row
+lentRows l padding = sheetRows (l .height) (l .width) (needed (l .height) (l .width) padding) (length (l .cells)) (l .work)
 
 -- ---- `remove_orphans`
 
-unfoldable pub orphansRefusal : List ℤ → ℕ → ℕ → Palette → Limits → ℕ → ℕ → Option ℕ
-orphansRefusal cells h w palette limits passes work =
+-- the colour limit is out of range, or there are too many passes
+unfoldable pub badLimits : Limits → ℕ → Bool
+badLimits limits passes = not (between 0 1024 (limits .colour)) || ltb 65535 passes
+
+unfoldable pub orphansRefusal : OrphansCall → Option ℕ
+orphansRefusal c =
     refusal (
-    tooLarge h w
-    ∷ tooShort (length cells) (h * w)
-    ∷ cramped work (h * w)
-    ∷ badPalette palette
-    ∷ badColour palette
-    ∷ badSetting (not (between 0 1024 (limits .colour)) || ltb 65535 passes)
-    ∷ badIndex true (limits .region) palette (sheetOf cells h w)
-    ∷ []
+    lentRows (c .lent) false
+    ++ paletteRows (c .palette) (badLimits (c .limits) (c .passes))
+    ++ badIndex true (c .limits .region) (c .palette) (sheetIn (c .lent)) ∷ []
     )
 
-unfoldable pub orphansAnswer : List ℤ → ℕ → ℕ → Palette → Limits → ℕ → ℕ → Cleaning
-orphansAnswer cells h w palette limits passes work =
-    unless (orphansRefusal cells h w palette limits passes work) Cleaning.the-variants.Refused
-    (Cleaning.the-variants.Passes (tidy passes palette limits (sheetOf cells h w) .passes))
+-- the cleaning that it makes
+abbrev pub orphansMade : OrphansCall → CleanedSheet
+orphansMade c = cleanSheet (c .passes) (c .palette) (c .limits) (sheetIn (c .lent))
 
-unfoldable pub orphansCells : List ℤ → ℕ → ℕ → Palette → Limits → ℕ → ℕ → List ℤ
-orphansCells cells h w palette limits passes work =
-    unless (orphansRefusal cells h w palette limits passes work) (λ n. cells)
-    (over (tidy passes palette limits (sheetOf cells h w) .sheet .cells) cells)
+unfoldable pub orphansAnswer : OrphansCall → Cleaning
+orphansAnswer c = unless (orphansRefusal c) Cleaning.the-variants.Refused (Cleaning.the-variants.Passes (orphansMade c .passes))
+
+unfoldable pub orphansCells : OrphansCall → List ℤ
+orphansCells c = unless (orphansRefusal c) (λ n. c .lent .cells) (over (orphansMade c .sheet .cells) (c .lent .cells))
 
 -- ---- `fix_jaggies`
 
-unfoldable pub jaggiesRefusal : List ℤ → ℕ → ℕ → ℕ → Option ℕ
-jaggiesRefusal cells h w work = refusal (tooLarge h w ∷ tooShort (length cells) (h * w) ∷ cramped work (h * w) ∷ [])
+unfoldable pub jaggiesRefusal : JaggiesCall → Option ℕ
+jaggiesRefusal c = refusal (lentRows (c .lent) false)
 
-unfoldable pub jaggiesAnswer : List ℤ → ℕ → ℕ → ℕ → Filling
-jaggiesAnswer cells h w work = filling (jaggiesRefusal cells h w work)
+unfoldable pub jaggiesAnswer : JaggiesCall → Filling
+jaggiesAnswer c = filling (jaggiesRefusal c)
 
-unfoldable pub jaggiesCells : List ℤ → ℕ → ℕ → ℕ → List ℤ
-jaggiesCells cells h w work =
-    unless (jaggiesRefusal cells h w work) (λ n. cells) (over (trim (sheetOf cells h w) .cells) cells)
+unfoldable pub jaggiesCells : JaggiesCall → List ℤ
+jaggiesCells c = unless (jaggiesRefusal c) (λ n. c .lent .cells) (over (trim (sheetIn (c .lent)) .cells) (c .lent .cells))
 
 -- ---- `add_outline`
 
@@ -75,37 +79,41 @@ factsOf s palette index clipped =
       «outline_clipped» = clipped;
     }
 
--- with no outline asked for, the setting is out of range
-unfoldable pub outlineRefusal : List ℤ → ℕ → ℕ → Palette → Outline → Bool → Bool → ℕ → Option ℕ
-outlineRefusal cells h w palette how allowed fixed work =
-    let s = sheetOf cells h w in
-    let padding = pads allowed how s in
+-- sides of at most those of a padded sheet, and at most 256 colours
+pub record SizesInRange (f : Facts) : Type 0 where
+  pub high : f .height ≤ 514
+  pub wide : f .width ≤ 514
+  pub few : f .colours ≤ 256
+
+-- no outline is asked for, or its darkening is out of range
+unfoldable pub badOutline : Outline → Bool
+badOutline outline = not (asked outline) || badDarkening outline
+
+unfoldable pub outlineRefusal : OutlineCall → Option ℕ
+outlineRefusal c =
+    let s = sheetIn (c .lent) in
+    let padding = pads (c .how) s in
     refusal (
-    tooLarge h w
-    ∷ tooShort (length cells) (needed h w padding)
-    ∷ cramped work (needed h w padding)
-    ∷ badPalette palette
-    ∷ badColour palette
-    ∷ badSetting (not (asked how) || badDarkening how)
-    ∷ noEntry fixed how palette (canvas padding s)
-    ∷ []
+    lentRows (c .lent) padding
+    ++ paletteRows (c .palette) (badOutline (c .how .outline))
+    ++ noEntry (c .how) (c .palette) (canvas padding s) ∷ []
     )
 
-unfoldable pub outlineAnswer : List ℤ → ℕ → ℕ → Palette → Outline → Bool → Bool → ℕ → Outlining
-outlineAnswer cells h w palette how allowed fixed work =
-    unless (outlineRefusal cells h w palette how allowed fixed work) Outlining.the-variants.Refused
-    (let o = outline allowed fixed how (sheetOf cells h w) palette in
+-- the outline that it draws; any entry may be written over
+abbrev pub outlineMade : OutlineCall → Outlined
+outlineMade c = outline (λ i. true) (c .how) (c .palette) (sheetIn (c .lent))
+
+unfoldable pub outlineAnswer : OutlineCall → Outlining
+outlineAnswer c =
+    unless (outlineRefusal c) Outlining.the-variants.Refused
+    (let o = outlineMade c in
     Outlining.the-variants.Drawn (factsOf (o .sheet) (o .palette) (o .index) (o .clipped)))
 
-unfoldable pub outlineCells : List ℤ → ℕ → ℕ → Palette → Outline → Bool → Bool → ℕ → List ℤ
-outlineCells cells h w palette how allowed fixed work =
-    unless (outlineRefusal cells h w palette how allowed fixed work) (λ n. cells)
-    (over (outline allowed fixed how (sheetOf cells h w) palette .sheet .cells) cells)
+unfoldable pub outlineCells : OutlineCall → List ℤ
+outlineCells c = unless (outlineRefusal c) (λ n. c .lent .cells) (over (outlineMade c .sheet .cells) (c .lent .cells))
 
-unfoldable pub outlinePalette : List ℤ → ℕ → ℕ → Palette → Outline → Bool → Bool → ℕ → List Float
-outlinePalette cells h w palette how allowed fixed work =
-    unless (outlineRefusal cells h w palette how allowed fixed work) (λ n. palette .lab)
-    (outline allowed fixed how (sheetOf cells h w) palette .palette .lab)
+unfoldable pub outlinePalette : OutlineCall → List Float
+outlinePalette c = unless (outlineRefusal c) (λ n. c .palette .lab) (outlineMade c .palette .lab)
 
 -- ---- `apply_saturation`
 
@@ -114,7 +122,7 @@ unfoldable pub badSaturation : Float → Palette → Bool
 badSaturation beta palette = not (between 0 16 beta) || outOfRange (saturate beta palette)
 
 unfoldable pub saturationRefusal : Palette → Float → Option ℕ
-saturationRefusal palette beta = refusal (badPalette palette ∷ badColour palette ∷ badSetting (badSaturation beta palette) ∷ [])
+saturationRefusal palette beta = refusal (paletteRows palette (badSaturation beta palette))
 
 unfoldable pub saturationAnswer : Palette → Float → Filling
 saturationAnswer palette beta = filling (saturationRefusal palette beta)
@@ -124,42 +132,36 @@ saturationPalette palette beta = unless (saturationRefusal palette beta) (λ n. 
 
 -- ---- `run`
 
--- a setting is out of range, whether or not its pass is on, or saturation applies and carries a double beyond ±1024
-unfoldable pub badConfig : PostConfig → Bool → Palette → Bool
-badConfig config kept palette =
+-- a setting is out of range, whether or not its pass is on
+unfoldable pub badRanges : PostConfig → Bool
+badRanges config =
     not (between 0 16 (config .«saturation_beta»))
     || not (between 0 1024 (config .«orphan_max_delta»))
     || badDarkening (config .outline)
-    || outOfRange (toned kept config palette)
 
-unfoldable pub runRefusal : List ℤ → ℕ → ℕ → Palette → PostConfig → Bool → Bool → ℤ → ℕ → Option ℕ
-runRefusal cells h w palette config saturated fixed margin work =
-    let s = sheetOf cells h w in
-    let padding = pads (padAllowed config margin) (config .outline) s in
+-- or saturation applies and carries a double beyond ±1024
+unfoldable pub badConfig : PostConfig → Bool → Palette → Bool
+badConfig config kept palette = badRanges config || outOfRange (toned kept config palette)
+
+unfoldable pub runRefusal : RunCall → Option ℕ
+runRefusal c =
+    let s = sheetIn (c .lent) in
+    let padding = pads (drawingOf c) s in
     refusal (
-    tooLarge h w
-    ∷ tooShort (length cells) (needed h w padding)
-    ∷ cramped work (needed h w padding)
-    ∷ badPalette palette
-    ∷ badColour palette
-    ∷ badSetting (badConfig config (saturated || fixed) palette)
-    ∷ badIndex (config .«remove_orphans») (config .«orphan_min_region») palette s
-    ∷ noEntry fixed (config .outline) palette (canvas padding s)
-    ∷ []
+    lentRows (c .lent) padding
+    ++ paletteRows (c .palette) (badConfig (c .config) (c .saturated || c .fixed) (c .palette))
+    ++ badIndex (c .config .«remove_orphans») (c .config .«orphan_min_region») (c .palette) s
+    ∷ noEntry (drawingOf c) (c .palette) (canvas padding s) ∷ []
     )
 
-unfoldable pub runAnswer : List ℤ → ℕ → ℕ → Palette → PostConfig → Bool → Bool → ℤ → ℕ → Processing
-runAnswer cells h w palette config saturated fixed margin work =
-    unless (runRefusal cells h w palette config saturated fixed margin work) Processing.the-variants.Refused
-    (let r = process config saturated fixed margin (sheetOf cells h w) palette in
+unfoldable pub runAnswer : RunCall → Processing
+runAnswer c =
+    unless (runRefusal c) Processing.the-variants.Refused
+    (let r = process c in
     Processing.the-variants.Processed (factsOf (r .sheet) (r .palette) (r .index) (r .clipped)) (r .passes) (r .again))
 
-unfoldable pub runCells : List ℤ → ℕ → ℕ → Palette → PostConfig → Bool → Bool → ℤ → ℕ → List ℤ
-runCells cells h w palette config saturated fixed margin work =
-    unless (runRefusal cells h w palette config saturated fixed margin work) (λ n. cells)
-    (over (process config saturated fixed margin (sheetOf cells h w) palette .sheet .cells) cells)
+unfoldable pub runCells : RunCall → List ℤ
+runCells c = unless (runRefusal c) (λ n. c .lent .cells) (over (process c .sheet .cells) (c .lent .cells))
 
-unfoldable pub runPalette : List ℤ → ℕ → ℕ → Palette → PostConfig → Bool → Bool → ℤ → ℕ → List Float
-runPalette cells h w palette config saturated fixed margin work =
-    unless (runRefusal cells h w palette config saturated fixed margin work) (λ n. palette .lab)
-    (process config saturated fixed margin (sheetOf cells h w) palette .palette .lab)
+unfoldable pub runPalette : RunCall → List Float
+runPalette c = unless (runRefusal c) (λ n. c .palette .lab) (process c .palette .lab)

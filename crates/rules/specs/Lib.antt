@@ -5,6 +5,7 @@ pub mod Regions
 pub mod Pass
 pub mod Corners
 pub mod Outline
+pub mod Calls
 pub mod Run
 pub mod Claims
 pub mod Masks

@@ -12,6 +12,7 @@ use Rattle.base.specs.Doubles.{_⊖_, _⊗_, decimal}
 use Rattle.color.specs.Lab.{distance, rgb8ToLab, labToRgb8}
 use Rattle.rules.specs.declared.Outline.{Outline}
 use Rattle.rules.specs.declared.Outline.the-variants.{None, Auto, Rgb}
+use Rattle.rules.specs.declared.Drawing.{Drawing}
 use Rattle.rules.specs.declared.LineIndex.{LineIndex}
 use Rattle.rules.specs.declared.LineIndex.the-variants.{Nothing, Entry}
 use Rattle.rules.specs.Sheet.{Sheet, area}
@@ -31,9 +32,9 @@ asked None = false
 asked (Auto d) = true
 asked (Rgb r g b) = true
 
--- padding applies
-unfoldable pub pads : Bool → Outline → Sheet → Bool
-pads allowed outline s = allowed && asked outline && touches s
+-- padding applies: it is allowed, an outline is asked for, and an edge is touched
+unfoldable pub pads : Drawing → Sheet → Bool
+pads how s = how .«allow_pad» && asked (how .outline) && touches s
 
 -- the cell at p of the sheet with one cell of -1 on every side
 unfoldable pub paddedAt : Sheet → ℕ → ℤ
@@ -105,13 +106,14 @@ pub data Choice : Type 0 where
   append : Choice
   replace : ℕ → Choice
 
--- a fixed palette serves with its nearest entry; else the first entry of the same RGB8 serves, else there is room, else the nearest goes
-unfoldable pub choice : Bool → Palette → Lab → Choice
-choice true palette c = reuse (nearestEntry (λ i. true) palette c)
-choice false palette c =
+-- A fixed palette serves with its nearest entry; else the first entry of the same RGB8 serves, else there is room, else the nearest of
+-- the entries that may be written over goes
+unfoldable pub choice : (ℕ → Bool) → Bool → Palette → Lab → Choice
+choice may true palette c = reuse (nearestEntry (λ i. true) palette c)
+choice may false palette c =
     elim (firstWhere (λ i. sameRgb8 (labToRgb8 (colour palette i)) (labToRgb8 c)) (palette .count)) [
       | some i ↦ reuse i
-      | none ↦ cond (ltb (palette .count) 256) append (replace (nearestEntry (λ i. true) palette c))
+      | none ↦ cond (ltb (palette .count) 256) append (replace (nearestEntry may palette c))
     ]
 
 -- the index that a choice gives, and the palette after it
@@ -133,23 +135,21 @@ pub record Outlined : Type 0 where
   pub index : LineIndex
   pub clipped : Bool
 
--- the ring of a sheet, drawn with a colour by a choice of entry
-unfoldable pub drawn : Sheet → Palette → Lab → Choice → Bool → Outlined
-drawn s palette c ch clipped =
-    record {
-      sheet = inked s (chosenIndex palette ch);
+-- An outline on the sheet `on`, which is padded already: the ring takes the index that the choice gives; an empty one takes none and keeps
+-- the palette
+unfoldable pub drawn : (ℕ → Bool) → Drawing → Palette → Bool → Sheet → Outlined
+drawn may how palette clipped on =
+    let c = lineColour palette (how .outline) in
+    let ch = choice may (how .«fixed_palette») palette c in
+    cond (hasRing on)
+    (record {
+      sheet = inked on (chosenIndex palette ch);
       palette = chosenPalette palette c ch;
       index = Entry (chosenIndex palette ch);
       clipped = clipped;
-    }
-
--- an outline call: padding where it applies, then the ring; an empty ring takes no index and keeps the palette.
--- Clipped: an edge is touched and padding was not allowed.
-unfoldable pub outline : Bool → Bool → Outline → Sheet → Palette → Outlined
-outline allowed fixed how s palette =
-    let on = canvas (pads allowed how s) s in
-    let clipped = touches s && not allowed in
-    let c = lineColour palette how in
-    cond (hasRing on)
-    (drawn on palette c (choice fixed palette c) clipped)
+    })
     (record { sheet = on; palette = palette; index = Nothing; clipped = clipped })
+
+-- an outline call: padding where it applies, then the ring. Clipped: an edge is touched and padding is not allowed.
+unfoldable pub outline : (ℕ → Bool) → Drawing → Palette → Sheet → Outlined
+outline may how palette s = drawn may how palette (touches s && not (how .«allow_pad»)) (canvas (pads how s) s)

@@ -10,6 +10,7 @@ use lib.Signed.{ltZ}
 use lib.ListN.{getD}
 use lib.Ieee.{Float, lt}
 use Rattle.base.specs.Places.{table, any, count, greatest}
+use Rattle.rules.specs.Palette.{firstLeast}
 use Rattle.rules.specs.Regions.{at, opaque, index, roots, held, inside, first}
 
 -- what a pass goes by
@@ -81,12 +82,6 @@ pub data Verdict : Type 0 where
   merge : ℕ → Float → Verdict
   freeze : ℕ → Float → Verdict
 
--- for a region of the index own, c takes the place of the best index below it if it is nearer
-unfoldable pub choose : Rule → ℕ → Bool → ℕ → Option ℕ → Option ℕ
-choose rule own false c o = o
-choose rule own true c none = some c
-choose rule own true c (some b) = some (cond (lt (rule .dist own c) (rule .dist own b)) c b)
-
 -- the verdict that a target gives a region of the index own
 unfoldable pub judged : Rule → ℕ → Option ℕ → Verdict
 judged rule own none = stay
@@ -107,14 +102,13 @@ module _ (rule : Rule) (cells : List ℤ) where
   unfoldable pub frequent : List Bool → ℕ → Bool
   frequent voters c = ltb 0 (votes voters c) && eqb (votes voters c) (most voters)
 
-  -- of the most frequent indices below k the nearest to own, the lowest of several
-  unfoldable pub target : ℕ → List Bool → ℕ → Option ℕ
-  target own voters zero = none
-  target own voters (suc c) = choose rule own (frequent voters c) c (target own voters c)
-
   -- above every index on the sheet
   unfoldable pub top : ℕ
   top = suc (greatest (rule .places) (opaque cells) (λ p. index (at cells p)))
+
+  -- of the most frequent indices the nearest to own, the lowest of several
+  unfoldable pub target : ℕ → List Bool → Option ℕ
+  target own voters = firstLeast (frequent voters) (rule .dist own) top
 
 module _ (rule : Rule) (v : View) where
   -- q votes on the region m: it lies in a large region and neighbours a cell of m
@@ -129,15 +123,11 @@ module _ (rule : Rule) (v : View) where
       && rule .free (index (at (v .cells) m))
       && not (any (rule .places) (λ p. inside (v .cells) (v .root) m p && marked (v .frozen) p))
 
-  -- the verdict on the region with the root m
-  unfoldable pub decided : ℕ → Bool → Verdict
-  decided m false = stay
-  decided m true =
-      let own = index (at (v .cells) m) in
-      judged rule own (target rule (v .cells) own (table (rule .places) (voter m)) (top rule (v .cells)))
-
+  -- the verdict on the region with the root m: one that is not pending stays
   unfoldable pub verdict : ℕ → Verdict
-  verdict m = decided m (pending m)
+  verdict m =
+      let own = index (at (v .cells) m) in
+      cond (pending m) (judged rule own (target rule (v .cells) own (table (rule .places) (voter m)))) stay
 
 -- what becomes of a cell
 unfoldable pub painted : Verdict → ℤ → ℤ
@@ -155,15 +145,16 @@ freezes stay = false
 freezes (merge c d) = false
 freezes (freeze c d) = true
 
--- the verdict on each place's region
+-- what a list of verdicts says of a place: past its end, stay
+unfoldable pub fate : List Verdict → ℕ → Verdict
+fate f p = getD f p stay
+
+-- the verdict on the region of each place, which is that on its root
 unfoldable pub fates : Rule → State → List Verdict
 fates rule s =
     let v = view rule s in
-    let w = table (rule .places) (verdict rule v) in
-    table (rule .places) (λ p. getD w (held (v .root) p) stay)
-
-unfoldable pub fate : List Verdict → ℕ → Verdict
-fate f p = getD f p stay
+    let onRoots = table (rule .places) (verdict rule v) in
+    table (rule .places) (λ p. fate onRoots (held (v .root) p))
 
 -- one pass: all changes happen together
 unfoldable pub applied : Rule → State → List Verdict → State

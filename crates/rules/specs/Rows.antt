@@ -1,6 +1,7 @@
 -- The rows of refusals, each with its condition, as the entries on sheets, palettes and masks share them. Definitions only. Assumes nothing.
 use Prim.Native.Nat.{ℕ, _*_}
 use mathlib.Core.Bool.{Bool, true, false, not, _&&_, _||_}
+use mathlib.Core.List.{List, [], _∷_}
 use lib.Dec.{eqb, ltb}
 use lib.IntN.{ℤ, pos}
 use lib.Signed.{leZ}
@@ -9,6 +10,7 @@ use Rattle.base.specs.Places.{any}
 use Rattle.base.specs.Refusals.{Row, row}
 use Rattle.rules.specs.declared.Outline.{Outline}
 use Rattle.rules.specs.declared.Outline.the-variants.{None, Auto, Rgb}
+use Rattle.rules.specs.declared.Drawing.{Drawing}
 use Rattle.rules.specs.Sheet.{Sheet, area}
 use Rattle.rules.specs.Regions.{at}
 use Rattle.rules.specs.Palette.{Palette, outOfRange, between}
@@ -26,6 +28,10 @@ tooShort len need = row 2 (ltb len need)
 unfoldable pub cramped : ℕ → ℕ → Row
 cramped work need = row 3 (ltb work (8 * need))
 
+-- rows 1 to 3, by the sides, the needed cells, and the lengths of the shortest lent list and of the work area
+abbrev pub sheetRows : ℕ → ℕ → ℕ → ℕ → ℕ → List Row
+sheetRows h w need lent work = tooLarge h w ∷ tooShort lent need ∷ cramped work need ∷ []
+
 -- 4: more than 256 entries, or not 768 doubles
 unfoldable pub badPalette : Palette → Row
 badPalette palette = row 4 (ltb 256 (palette .count) || not (eqb (length (palette .lab)) 768))
@@ -37,6 +43,10 @@ badColour palette = row 5 (outOfRange palette)
 -- 6: a setting is NaN or out of range
 unfoldable pub badSetting : Bool → Row
 badSetting b = row 6 b
+
+-- rows 4 to 6, by whether a setting is out of range
+abbrev pub paletteRows : Palette → Bool → List Row
+paletteRows palette bad = badPalette palette ∷ badColour palette ∷ badSetting bad ∷ []
 
 -- the darkening of an outline is out of range, where it has one
 unfoldable pub badDarkening : Outline → Bool
@@ -55,5 +65,6 @@ isAuto (Auto d) = true
 isAuto (Rgb r g b) = false
 
 -- 8: an outline is asked for, the ring of its canvas is not empty, there is no entry, and the outline is auto or the palette fixed
-unfoldable pub noEntry : Bool → Outline → Palette → Sheet → Row
-noEntry fixed outline palette s = row 8 (asked outline && hasRing s && eqb (palette .count) 0 && (isAuto outline || fixed))
+unfoldable pub noEntry : Drawing → Palette → Sheet → Row
+noEntry how palette on =
+    row 8 (asked (how .outline) && hasRing on && eqb (palette .count) 0 && (isAuto (how .outline) || how .«fixed_palette»))

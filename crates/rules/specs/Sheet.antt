@@ -19,6 +19,20 @@ area s = s .height * s .width
 unfoldable pub sheetOf : List ℤ → ℕ → ℕ → Sheet
 sheetOf lent h w = record { cells = take (h * w) lent; height = h; width = w }
 
+-- a sheet as it is lent: the list that holds it in front, its sides, and the length of the work area
+pub record LentSheet : Type 0 where
+  pub cells : List ℤ
+  pub height : ℕ
+  pub width : ℕ
+  pub work : ℕ
+
+abbrev pub lentSheet : List ℤ → ℕ → ℕ → ℕ → LentSheet
+lentSheet cells h w work = record { cells = cells; height = h; width = w; work = work }
+
+-- its sheet
+abbrev pub sheetIn : LentSheet → Sheet
+sheetIn l = sheetOf (l .cells) (l .height) (l .width)
+
 -- what a lent list holds after a list was written over it, from the first on
 unfoldable pub over : List ℤ → List ℤ → List ℤ
 over new lent = new ++ drop (length new) lent
