@@ -1,4 +1,0 @@
-pub mod Scans
-pub mod Signs
-pub mod Rows
-pub mod Answers
