@@ -13,13 +13,12 @@ use lib.Dec.{lit<, leb, ltb, eqb}
 use lib.IntN.{ℤ, pos, negsuc, _+ℤ_}
 use lib.ListN.{getD}
 use lib.Signed.{leZ}
-use Rattle.base.proofs.Counting.{case, clash, both, left, right, either, or-left, or-right, not-true, not-false, eqb-yes, yes-eqb, leb-yes, yes-leb}
+use Rattle.base.proofs.Counting.{case, clash, both, left, right, either, or-left, or-right, not-true, not-false, eqb-yes, yes-eqb, leb-yes, yes-leb, neither}
 use Rattle.rules.specs.Regions.{Symmetric}
 use Rattle.rules.specs.Grid.{close, eight, four, onEdge, onSide, placeOf, stepTo}
 use Rattle.rules.proofs.Grids.{eight-symmetric, four-symmetric}
-use Rattle.checks.proofs.Rows.{neither}
 use Rattle.grid.specs.declared.Step.the-variants.{Cell, Off}
-use Rattle.grid.specs.Steps.{Single, Inner, stepOf, hood}
+use Rattle.grid.specs.Steps.{Single, Inner, stepOf, neighbours}
 
 -- ---- rows, columns and places
 
@@ -359,31 +358,31 @@ four-hop h w p q l e =
 
 -- ---- the same for 4 or 8 steps
 
-pub hood-four : (w : ℕ) {steps : ℕ} → steps ≡ 4 → hood steps w ≡ four w
-unfolding hood
-hood-four w e = ap (λ (s : ℕ). hood s w) e
+pub neighbours-four : (w : ℕ) {steps : ℕ} → steps ≡ 4 → neighbours steps w ≡ four w
+unfolding neighbours
+neighbours-four w e = ap (λ (s : ℕ). neighbours s w) e
 
-pub hood-eight : (w : ℕ) {steps : ℕ} → steps ≡ 8 → hood steps w ≡ eight w
-unfolding hood
-hood-eight w e = ap (λ (s : ℕ). hood s w) e
+pub neighbours-eight : (w : ℕ) {steps : ℕ} → steps ≡ 8 → neighbours steps w ≡ eight w
+unfolding neighbours
+neighbours-eight w e = ap (λ (s : ℕ). neighbours s w) e
 
 module _ (steps : ℕ) (ok : (steps ≡ 4) ⊎ (steps ≡ 8)) where
   pub step-few : (k : ℕ) → k < steps → k < 8
   step-few k l = ⊎-elim (λ e. omega arith) (λ e. omega arith) ok
 
-  pub hood-symmetric : (w : ℕ) → Symmetric (hood steps w)
-  hood-symmetric w = ⊎-elim (λ e. subst Symmetric (sym (hood-four w e)) (four-symmetric w)) (λ e. subst Symmetric (sym (hood-eight w e)) (eight-symmetric w)) ok
+  pub neighbours-symmetric : (w : ℕ) → Symmetric (neighbours steps w)
+  neighbours-symmetric w = ⊎-elim (λ e. subst Symmetric (sym (neighbours-four w e)) (four-symmetric w)) (λ e. subst Symmetric (sym (neighbours-eight w e)) (eight-symmetric w)) ok
 
-  pub hood-sound : (h w p k q : ℕ) → k < steps → hop h w p k ≡ some q → hood steps w p q ≡ true
-  hood-sound h w p k q l e =
-      ⊎-elim (λ s. ap (λ (a : ℕ → ℕ → Bool). a p q) (hood-four w s) ∙ hop-four h w p k q (omega arith) e)
-      (λ s. ap (λ (a : ℕ → ℕ → Bool). a p q) (hood-eight w s) ∙ hop-eight h w p k q (omega arith) e) ok
+  pub neighbours-sound : (h w p k q : ℕ) → k < steps → hop h w p k ≡ some q → neighbours steps w p q ≡ true
+  neighbours-sound h w p k q l e =
+      ⊎-elim (λ s. ap (λ (a : ℕ → ℕ → Bool). a p q) (neighbours-four w s) ∙ hop-four h w p k q (omega arith) e)
+      (λ s. ap (λ (a : ℕ → ℕ → Bool). a p q) (neighbours-eight w s) ∙ hop-eight h w p k q (omega arith) e) ok
 
-  pub hood-complete : (h w p q : ℕ) → q < h * w → hood steps w p q ≡ true → (k : ℕ) × (k < steps) × (hop h w p k ≡ some q)
-  hood-complete h w p q l e =
+  pub neighbours-complete : (h w p q : ℕ) → q < h * w → neighbours steps w p q ≡ true → (k : ℕ) × (k < steps) × (hop h w p k ≡ some q)
+  neighbours-complete h w p q l e =
       ⊎-elim
-      (λ s. let f = four-hop h w p q l (sym (ap (λ (a : ℕ → ℕ → Bool). a p q) (hood-four w s)) ∙ e) in (f .0, omega (arith, f .1), f .2))
-      (λ s. let f = eight-hop h w p q l (sym (ap (λ (a : ℕ → ℕ → Bool). a p q) (hood-eight w s)) ∙ e) in (f .0, omega (arith, f .1), f .2)) ok
+      (λ s. let f = four-hop h w p q l (sym (ap (λ (a : ℕ → ℕ → Bool). a p q) (neighbours-four w s)) ∙ e) in (f .0, omega (arith, f .1), f .2))
+      (λ s. let f = eight-hop h w p q l (sym (ap (λ (a : ℕ → ℕ → Bool). a p q) (neighbours-eight w s)) ∙ e) in (f .0, omega (arith, f .1), f .2)) ok
 
 -- ---- a step from within the border
 

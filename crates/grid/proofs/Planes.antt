@@ -15,9 +15,9 @@ use lib.ListN.{length, getD, set, List·getD-eq-default}
 use lib.Seq.{getD-set-same, getD-set-other, ext-getD}
 use Rattle.base.specs.Places.{table, least, times, count}
 use Rattle.base.proofs.Counting.{clash, table-at, table-length, same-test, eqb-yes, yes-eqb}
-use Rattle.rules.specs.Regions.{at, opaque, index, alike, link, held, spread, roots, root, inside, first, label}
+use Rattle.rules.specs.Regions.{at, opaque, index, alike, link, held, spread, roots, inside, first, label}
 use Rattle.rules.specs.Masks.{labelAt, regions}
-use Rattle.grid.specs.Planes.{plane, paintOf, cellOf, cellsOf, endOf, Labelled}
+use Rattle.grid.specs.Planes.{plane, paintOf, cellOf, cellsOf, endOf}
 
 -- ---- stores
 
@@ -128,10 +128,6 @@ module _ (a b : List ℤ) (same : (p : ℕ) → paintOf (at a p) ≡ paintOf (at
   same-roots n adj =
       ap (λ (l : ℕ → ℕ → Bool). times n (λ r. table n (λ p. least n (l p) (held r) (held r p))) (table n (λ p. p))) (same-link adj)
 
-  pub same-root : (n : ℕ) (adj : ℕ → ℕ → Bool) (p : ℕ) → root n adj a p ≡ root n adj b p
-  unfolding root
-  same-root n adj p = ap (λ (r : List ℕ). held r p) (same-roots n adj)
-
   pub same-labels : (n : ℕ) (adj : ℕ → ℕ → Bool) (p : ℕ) → labelAt n adj a p ≡ labelAt n adj b p
   unfolding labelAt label first inside
   same-labels n adj p =
@@ -155,18 +151,3 @@ module _ {cells : List ℤ} {n : ℕ} {work : List ℕ} (s : Painted cells n wor
         | yes l ↦ cells-paint n work p l ∙ s .paint p l
         | no m ↦ ap paintOf (List·getD-eq-default (cellsOf n work) (negsuc 0) (omega (arith, cells-size n work)) ∙ sym (List·getD-eq-default cells (negsuc 0) (omega (arith, s .size))))
       ]
-
-  -- so what the planes hold of the one they hold of the other
-  pub labelled-painted : {adj : ℕ → ℕ → Bool} {regions taken : ℕ} → Labelled adj (cellsOf n work) n work regions taken → Labelled adj cells n work regions taken
-  labelled-painted {adj = adj} l = record {
-    labels = λ p k. l .labels p k ∙ same-labels (cellsOf n work) cells painted-alike n adj p;
-    count = l .count ∙ same-regions (cellsOf n work) cells painted-alike n adj;
-    room = l .room;
-    placed = l .placed;
-    sorted = l .sorted;
-    distinct = l .distinct;
-    listed = l .listed;
-    limits = l .limits;
-    ends = l .ends;
-    foremost = λ k h. sym (same-root (cellsOf n work) cells painted-alike n adj (plane n 2 work (endOf n work k))) ∙ l .foremost k h;
-  }

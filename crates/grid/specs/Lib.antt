@@ -1,4 +1,3 @@
 pub mod Steps
 pub mod Planes
-pub mod Filling
 pub mod Tiles

@@ -27,5 +27,5 @@ pub record Inner (h w p : ℕ) : Type 0 where
   pub after : p % w + 1 < w
 
 -- the neighbourhood that the first 4 or all 8 steps reach
-unfoldable pub hood : ℕ → ℕ → ℕ → ℕ → Bool
-hood steps w = cond (eqb steps 4) (four w) (eight w)
+unfoldable pub neighbours : ℕ → ℕ → ℕ → ℕ → Bool
+neighbours steps w = cond (eqb steps 4) (four w) (eight w)

@@ -1,20 +1,12 @@
-// Cells of a grid and their neighbours, the planes of the work area, and the regions of a sheet.
-pub mod label;
+// Cells of a grid and their neighbours, and the planes of the work area.
 pub mod tile;
 
-use base::Filling;
-use checks::too_large;
-use rules::Labelling;
 ghost use mathlib.Core.Path.{_≡_};
 ghost use Prim.Native.Nat.{_*_, _/_, _%_, _≤_, _<_};
 ghost use lib.IntN.{pos, negsuc, _+ℤ_};
 ghost use lib.Signed.{leZ};
 ghost use mathlib.Core.Bool.{true, false};
-ghost use mathlib.Core.List.{[]};
-ghost use lib.ListN.{length};
-ghost use Rattle.base.specs.Refusals.{filling};
 ghost use Rattle.rules.specs.Grid.{onEdge, onSide, stepTo};
-ghost use Rattle.rules.specs.Masks.{gridRefusal, regionsAnswer, regionsLabels};
 ghost use Rattle.grid.specs.Steps.{stepOf, Single, Inner};
 
 // What a step from a cell finds.
@@ -23,10 +15,19 @@ pub enum Step {
     Off,
 }
 
-// The regions numbered so far, and how many places of the order are taken.
-pub struct Tally {
-    pub regions: u32,
-    pub taken: usize,
+// A grid of h rows of w cells, and how many of the eight steps lead from a cell to its neighbours: the first four, or all.
+pub struct Grid {
+    pub h: usize,
+    pub w: usize,
+    pub steps: usize,
+}
+
+// A step from the place p, by dy rows and dx columns; unless `border`, p lies on no edge.
+pub struct Move {
+    pub p: usize,
+    pub dy: i32,
+    pub dx: i32,
+    pub border: bool,
 }
 
 // The eight steps, row and column; the four orthogonal ones first.
@@ -75,7 +76,7 @@ pub fn neighbour(y: usize, x: usize, dy: i32, dx: i32, h: usize, w: usize) -> St
 }
 
 // Whether the place p lies on the border of the grid.
-pub fn on_border(p: usize, h: usize, w: usize) -> bool
+pub fn on_edge(p: usize, h: usize, w: usize) -> bool
     requires { ⌜ (p < h * w) × (h ≤ 514) × (w ≤ 514) ⌝ }
     ensures { λ r. ⌜ r ≡ onEdge h w p ⌝ }
 {
@@ -115,44 +116,4 @@ pub fn reached(p: usize, dy: i32, dx: i32, border: bool, h: usize, w: usize) -> 
     let to = p + rows * w + cols;
     let over = w + 1;
     Step::Cell(to - over)
-}
-
-// Rows 1 to 3 of an entry that reads a lent list and fills another, by their lengths and that of the work area.
-pub fn sizes(h: usize, w: usize, lent: usize, out: usize, work: usize) -> Filling
-    ensures { λ r. ⌜ r ≡ filling (gridRefusal h w lent out work []) ⌝ }
-{
-    if too_large(h, w) {
-        return Filling::Refused(1);
-    }
-    let n = h * w;
-    if lent < n {
-        return Filling::Refused(2);
-    }
-    if out < n {
-        return Filling::Refused(2);
-    }
-    if work < 8 * n {
-        return Filling::Refused(3);
-    }
-    Filling::Done
-}
-
-// The regions of a sheet, joined by steps to the eight neighbours: its labels, 0 for transparent, and their number.
-pub fn label_regions(
-    cells: &[i32],
-    h: usize,
-    w: usize,
-    labels: &mut [u32],
-    work: &mut [u32],
-) -> Labelling
-    ensures { λ r. ⌜ r ≡ regionsAnswer (now (cells .entry)) h w (now (labels .entry)) (length (now (work .entry))) ⌝ }
-    ensures { λ r. ⌜ now (labels .exit) ≡ regionsLabels (now (cells .entry)) h w (now (labels .entry)) (length (now (work .entry))) ⌝ }
-{
-    let checked = sizes(h, w, cells.len(), labels.len(), work.len());
-    if let Filling::Refused(row) = checked {
-        return Labelling::Refused(row);
-    }
-    tile::load(cells, work, 0, w, h, w);
-    let count = label::label_into(work, h, w, 8, labels);
-    Labelling::Regions(count)
 }

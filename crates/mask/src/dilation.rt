@@ -1,9 +1,10 @@
 // Dilation of a mask by k rows and k columns: separable, by running counts along each row, then down the columns.
 // The work area holds h + 1 rows of counts down the columns; the counts along one row stand behind them.
 use base::Filling;
-use checks::too_large;
+use refusals::grid_refusal;
+use refusals::lesser;
 ghost use mathlib.Core.Path.{_≡_};
-ghost use Prim.Native.Nat.{ℕ, _+_, _-_, _*_, _/_, _%_, _≤_, _<_, min, max};
+ghost use Prim.Native.Nat.{ℕ, _+_, _-_, _*_, _/_, _%_, _≤_, _<_, max};
 ghost use lib.ListN.{length, getD};
 ghost use Rattle.base.specs.Places.{count};
 ghost use Rattle.base.specs.Outputs.{filled};
@@ -22,12 +23,6 @@ fn saturating_sub(a: usize, b: usize) -> usize
     ensures { λ r. ⌜ r ≡ a - b ⌝ }
 {
     if a < b { 0 } else { a - b }
-}
-
-fn lesser(a: usize, b: usize) -> usize
-    ensures { λ r. ⌜ r ≡ min a b ⌝ }
-{
-    if a < b { a } else { b }
 }
 
 fn greater(a: usize, b: usize) -> usize
@@ -177,23 +172,13 @@ pub fn binary_dilation8(
     ensures { λ r. ⌜ r ≡ dilationAnswer (now (mask .entry)) h w iterations (now (out .entry)) (length (now (work .entry))) ⌝ }
     ensures { λ r. ⌜ now (out .exit) ≡ dilationOut (now (mask .entry)) h w iterations (now (out .entry)) (length (now (work .entry))) ⌝ }
 {
-    if too_large(h, w) {
-        return Filling::Refused(1);
-    }
-    let n = h * w;
-    if mask.len() < n {
-        return Filling::Refused(2);
-    }
-    if out.len() < n {
-        return Filling::Refused(2);
-    }
-    if work.len() < 8 * n {
-        return Filling::Refused(3);
+    if let Filling::Refused(row) = grid_refusal(h, w, mask.len(), out.len(), work.len()) {
+        return Filling::Refused(row);
     }
     if 65535 < iterations {
         return Filling::Refused(6);
     }
-    if 0 < n {
+    if 0 < h * w {
         let k = reach(h, w, iterations);
         dilate(mask, h, w, k, out, work);
     }

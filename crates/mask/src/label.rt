@@ -1,5 +1,6 @@
 // The regions of a mask: set places joined by steps to the four neighbours.
 use base::Filling;
+use refusals::grid_refusal;
 use rules::Labelling;
 ghost use mathlib.Core.Path.{_≡_};
 ghost use Prim.Native.Nat.{_≤_};
@@ -24,12 +25,11 @@ pub fn label4(mask: &[u8], h: usize, w: usize, labels: &mut [u32], work: &mut [u
     ensures { λ r. ⌜ r ≡ maskAnswer (now (mask .entry)) h w (now (labels .entry)) (length (now (work .entry))) ⌝ }
     ensures { λ r. ⌜ now (labels .exit) ≡ maskLabels (now (mask .entry)) h w (now (labels .entry)) (length (now (work .entry))) ⌝ }
 {
-    let checked = grid::sizes(h, w, mask.len(), labels.len(), work.len());
-    if let Filling::Refused(row) = checked {
+    if let Filling::Refused(row) = grid_refusal(h, w, mask.len(), labels.len(), work.len()) {
         return Labelling::Refused(row);
     }
     let n = h * w;
     paint(mask, n, work);
-    let count = grid::label::label_into(work, h, w, 4, labels);
+    let count = labels::label::label_into(work, h, w, 4, labels);
     Labelling::Regions(count)
 }

@@ -2,7 +2,7 @@
 use mathlib.Core.Path.{_≡_}
 use native.Mathlib.Omega.{arith}
 use borrow.Author.Needs.{needs}
-use lib.IntN.{ℤ, pos, _+ℤ_}
+use lib.IntN.{pos, _+ℤ_}
 use mir.Syntax.{w32}
 use mir.Val.{ofZ, toZ}
 use mir.Facts.{fits-natAbs}

@@ -16,8 +16,12 @@ Inv-loop mask h w k work₀ line r hi y₀ work y = Turns y h work₀ work (Coun
 abbrev μ-loop : tie.MeasureT-loop
 μ-loop mask h w k work₀ line r hi y₀ work y = h - y
 
+abbrev entered : tie.After-fill-arg Inv-loop μ-loop → tie.Start Inv-loop μ-loop
+entered c = c .before .before .before
+
+-- before the rows are counted
 abbrev start : tie.After-slice-known2 Inv-loop μ-loop → tie.Start Inv-loop μ-loop
-start c = c .before .before .before .before .before .before
+start c = entered (c .before .before .before)
 
 fits : (c : tie.Start Inv-loop μ-loop) → let a = c .args in Room (a .h) (a .w) (length (a .work .now))
 fits c = room _ _ _ (c .pre .2) (c .pre .4)
@@ -30,7 +34,7 @@ here : (c : tie.In-loop Inv-loop μ-loop) → let a = start (c .before .before .
 here c = row-below _ _ _ (c .loop-test .taken)
 
 fill-requires : tie.Need-fill-requires Inv-loop μ-loop
-fill-requires c κs = omega (arith, fits (c .before .before .before))
+fill-requires c κs = omega (arith, fits (entered c))
 
 add-line : tie.Need-add-line Inv-loop μ-loop
 add-line c = omega arith

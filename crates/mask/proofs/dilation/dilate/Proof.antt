@@ -9,10 +9,15 @@ use Rattle.mask.proofs.dilation.dilate.Tie as tie
 count-rows-requires : tie.Need-count-rows-requires
 count-rows-requires c κs = search needs
 
+-- where the rows are counted
+abbrev counted : tie.After-store-arg2 → tie.After-count-rows
+counted c = c .before .before .before .before
+
+abbrev start : tie.After-count-rows-arg → tie.Start
+start c = c .before .before .before .before
+
 store-requires : tie.Need-store-requires
-store-requires c κs =
-    let start = c .before .before .before .before .before .before .before .before .before in
-    omega (arith, room _ _ _ (start .pre .0 .2) (start .pre .1 .2))
+store-requires c κs = let s = start (counted c .before) in omega (arith, room _ _ _ (s .pre .0 .2) (s .pre .1 .2))
 
 same-length : tie.Need-same-length
 same-length c = search needs
@@ -23,8 +28,7 @@ same-length-2 c = search needs
 returns : tie.Need-returns
 returns c =
     let stored = c .before .before in
-    let counted = stored .before .before .before .before .before in
-    dilation-is _ (omega arith) (counted .count-rows .ensures) (stored .store .ensures)
+    dilation-is _ (omega arith) (counted (stored .before) .count-rows .ensures) (stored .store .ensures)
 
 pub dilate-spec : {M : Type 1} → statement M
 dilate-spec =

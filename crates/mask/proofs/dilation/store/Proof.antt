@@ -22,21 +22,24 @@ abbrev μ-loop : tie.MeasureT-loop
 loop-holds : tie.Need-loop-holds Inv-loop μ-loop
 loop-holds c = record { below = omega arith; same = refl; done = rw zero-mul (filled-none _ _) }
 
+abbrev start : tie.At-loop Inv-loop μ-loop → tie.Start Inv-loop μ-loop
+start c = c .before .before .before
+
 -- the row that is written, and the two that are read
-here : (c : tie.In-loop Inv-loop μ-loop) → let a = c .before .before .before .before .args in c .before .loop .y * a .w + a .w ≤ a .h * a .w
+here : (c : tie.In-loop Inv-loop μ-loop) → let a = start (c .before) .args in c .before .loop .y * a .w + a .w ≤ a .h * a .w
 here c = row-below _ _ _ (c .loop-test .taken)
 
 low : (c : tie.After-saturating-sub Inv-loop μ-loop) →
-    let a = c .before .before .before .before .before .args in c .saturating-sub .result * a .w + a .w ≤ length (a .work .now)
+    let a = start (c .before .before) .args in c .saturating-sub .result * a .w + a .w ≤ length (a .work .now)
 low c =
-    let a = c .before .before .before .before .before .args in
+    let a = start (c .before .before) .args in
     omega (arith, row-below (c .saturating-sub .result) (a .h + 1) (a .w) (omega arith))
 
 high : (c : tie.After-lesser Inv-loop μ-loop) →
-    let a = c .before .before .before .before .before .before .args in c .lesser .result * a .w + a .w ≤ length (a .work .now)
+    let a = start (c .before .before .before) .args in c .lesser .result * a .w + a .w ≤ length (a .work .now)
 high c =
     let l = c .before .before .before in
-    let a = l .before .before .before .args in
+    let a = start l .args in
     omega (arith, row-below (c .lesser .result) (a .h + 1) (a .w) (omega (arith, min-le-right (l .loop .y + a .k + 1) (a .h))))
 
 mul-at : tie.Need-mul-at Inv-loop μ-loop
@@ -87,7 +90,7 @@ same-length c = c .before .loop .inv .same
 
 returns : tie.Need-returns Inv-loop μ-loop
 returns c =
-    let all : c .before .loop .y ≡ c .before .before .before .before .args .h = omega arith in
+    let all : c .before .loop .y ≡ start (c .before) .args .h = omega arith in
     rw all at (c .before .loop .inv .done)
 
 pub store-spec : {M : Type 1} → statement M

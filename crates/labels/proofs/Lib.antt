@@ -1,0 +1,4 @@
+pub mod Filling
+pub mod Flooding
+pub mod Seen
+pub mod Answers
