@@ -1,12 +1,14 @@
 -- Repainting the logged groups leaves the planes as absorbing needs them. Assumes nothing.
-use Prim.Native.Nat.{ℕ, suc, _-_, _*_, _≤_, _<_}
+use Prim.Native.Nat.{ℕ, suc, _-_, _≤_, _<_}
 use mathlib.Core.Path.{_≡_, sym, _∙_}
 use mathlib.Core.Logic.{⊎-elim}
 use mathlib.Core.Bool.{true}
 use mathlib.Core.List.{List}
 use native.Mathlib.Omega.{arith}
 use Rattle.base.proofs.Counting.{case, clash, count-mono}
+use Rattle.grid.specs.declared.Grid.{Grid}
 use Rattle.grid.specs.Planes.{plane}
+use Rattle.verdicts.specs.Steps.{areaOf}
 use Rattle.verdicts.specs.Groups.{Group, GroupedSheet}
 use Rattle.verdicts.specs.Judging.{largeOf}
 use Rattle.frontier.specs.Judging.{idle}
@@ -15,9 +17,9 @@ use Rattle.verdicts.proofs.Keeping.{group-alike}
 use Rattle.frontier.proofs.Repaints.{repainted-alike}
 use Rattle.frontier.proofs.Gains.{idle-record, record-idle, big-same, big-one}
 
-module _ (h w steps from mid : ℕ) (a b : List ℕ) (d : Decided h w steps from mid a) (r : Repainted (h * w) (Listed (h * w) a from mid) a b) where
+module _ {grid : Grid} {from mid : ℕ} {a b : List ℕ} (d : Decided grid from mid a) (r : Repainted (areaOf grid) (Listed (areaOf grid) a from mid) a b) where
   abbrev n : ℕ
-  n = h * w
+  n = areaOf grid
 
   label : (x : ℕ) → x < n → plane n 1 b x ≡ plane n 1 a x
   label x l = repainted-alike r .label x l
@@ -52,7 +54,7 @@ module _ (h w steps from mid : ℕ) (a b : List ℕ) (d : Decided h w steps from
       let q : (2 ≤ plane n 6 a l) × (plane n 6 a l ≤ 257) = rw (z .3) at (d .numbers (z .0) (z .1) (z .2)) in
       (omega (arith, q .0), omega (arith, q .1))
 
-  sheet-still : GroupedSheet h w steps b
+  sheet-still : GroupedSheet grid b
   sheet-still =
       let o = d .sheet in
       record {
@@ -80,7 +82,7 @@ module _ (h w steps from mid : ℕ) (a b : List ℕ) (d : Decided h w steps from
       })
 
   -- absorbing may begin
-  pub decided-growth : Growth h w steps mid b
+  pub decided-growth : Growth grid mid b
   decided-growth = record {
     sheet = sheet-still;
     whole = λ x y l m z e. whole-still x y l m (rw (label x l) at z) (sym (label x l) ∙ e ∙ label y m);

@@ -10,9 +10,11 @@ use borrow.Author.Tests.{ne-eqb}
 use lib.Dec.{eqb, ltb}
 use lib.ListN.{length, set, length-set}
 use Rattle.base.proofs.Counting.{case, clash, both, left, right, not-true, not-false, leb-yes, yes-leb, yes-eqb, or-left, or-right, count-some}
+use Rattle.grid.specs.declared.Grid.{Grid}
 use Rattle.grid.specs.Planes.{plane}
 use Rattle.grid.proofs.Planes.{plane-same, plane-else, plane-other}
-use Rattle.frontier.specs.Growing.{Logged, Growth, Cause, Gained}
+use Rattle.verdicts.specs.Steps.{areaOf}
+use Rattle.frontier.specs.Growing.{Logged, Matches, Growth, Cause, Gained}
 use Rattle.frontier.proofs.Stages.{big-some}
 use Rattle.frontier.proofs.Growth.{logged-start, logged-step, room-step}
 use Rattle.verdicts.specs.Groups.{GroupedSheet}
@@ -87,8 +89,8 @@ logged-trans n group group′ big₀ big big′ log log′ lo mid hi l1 l2 label
 -- ---- what was gained
 
 -- nothing is
-pub gained-start : (h w steps end : ℕ) (near : ℕ → Type 0) (a : List ℕ) → Growth h w steps end a → ((q : ℕ) → q < h * w → near q → 0 < plane (h * w) 1 a q → largeOf (h * w) a q ≡ true) → Gained h w steps near a a end end
-gained-start h w steps end near a g f = record {
+pub gained-start : (grid : Grid) (end : ℕ) (near : ℕ → Type 0) (a : List ℕ) → Growth grid end a → ((q : ℕ) → q < areaOf grid → near q → 0 < plane (areaOf grid) 1 a q → largeOf (areaOf grid) a q ≡ true) → Gained grid near a a end end
+gained-start grid end near a g f = record {
   len = refl;
   growth = g;
   same = λ j q z y l. refl;
@@ -96,15 +98,15 @@ gained-start h w steps end near a g f = record {
   told = f;
   rises = omega arith;
   kept = λ i l. refl;
-  logged = logged-start (h * w) (plane (h * w) 1 a) (largeOf (h * w) a) (largeOf (h * w) a) (plane (h * w) 7 a) end (λ x l. refl);
+  logged = logged-start (areaOf grid) (plane (areaOf grid) 1 a) (largeOf (areaOf grid) a) (largeOf (areaOf grid) a) (plane (areaOf grid) 7 a) end (λ x l. refl);
 }
 
 -- nothing to gain, since no place that `near` names is small
-pub gained-none : (h w steps end : ℕ) (near : ℕ → Type 0) (a : List ℕ) → Growth h w steps end a → ((q : ℕ) → q < h * w → near q → 0 < plane (h * w) 1 a q → plane (h * w) 5 a q ≡ 0 → ⊥) → Gained h w steps near a a end end
-gained-none h w steps end near a g f = gained-start h w steps end near a g (λ q l z y. big-some (h * w) a q (f q l z y))
+pub gained-none : (grid : Grid) (end : ℕ) (near : ℕ → Type 0) (a : List ℕ) → Growth grid end a → ((q : ℕ) → q < areaOf grid → near q → 0 < plane (areaOf grid) 1 a q → plane (areaOf grid) 5 a q ≡ 0 → ⊥) → Gained grid near a a end end
+gained-none grid end near a g f = gained-start grid end near a g (λ q l z y. big-some (areaOf grid) a q (f q l z y))
 
 -- the same places by another name
-pub gained-same : {h w steps : ℕ} {near near′ : ℕ → Type 0} {a b : List ℕ} {from end : ℕ} → ((q : ℕ) → q < h * w → near q → near′ q) → ((q : ℕ) → q < h * w → near′ q → near q) → Gained h w steps near a b from end → Gained h w steps near′ a b from end
+pub gained-same : {grid : Grid} {near near′ : ℕ → Type 0} {a b : List ℕ} {from end : ℕ} → ((q : ℕ) → q < areaOf grid → near q → near′ q) → ((q : ℕ) → q < areaOf grid → near′ q → near q) → Gained grid near a b from end → Gained grid near′ a b from end
 gained-same f g u = record {
   len = u .len;
   growth = u .growth;
@@ -116,10 +118,10 @@ gained-same f g u = record {
   logged = u .logged;
 }
 
-pub gained-old : {h w steps : ℕ} {near : ℕ → Type 0} {a b : List ℕ} {from end : ℕ} → Gained h w steps near a b from end → (x : ℕ) → x < h * w → largeOf (h * w) a x ≡ true → largeOf (h * w) b x ≡ true
-gained-old {h} {w} {a = a} {b = b} u x l y = ⊎-elim (λ e. big-same (h * w) a b x e ∙ y) (λ e. big-one (h * w) b x (e .0)) (u .flags x l)
+pub gained-old : {grid : Grid} {near : ℕ → Type 0} {a b : List ℕ} {from end : ℕ} → Gained grid near a b from end → (x : ℕ) → x < areaOf grid → largeOf (areaOf grid) a x ≡ true → largeOf (areaOf grid) b x ≡ true
+gained-old {grid} {a = a} {b = b} u x l y = ⊎-elim (λ e. big-same (areaOf grid) a b x e ∙ y) (λ e. big-one (areaOf grid) b x (e .0)) (u .flags x l)
 
-pub gained-alike : {h w steps : ℕ} {near : ℕ → Type 0} {a b : List ℕ} {from end : ℕ} → Gained h w steps near a b from end → Alike (h * w) a b
+pub gained-alike : {grid : Grid} {near : ℕ → Type 0} {a b : List ℕ} {from end : ℕ} → Gained grid near a b from end → Alike (areaOf grid) a b
 gained-alike u = record {
   label = λ q l. u .same 1 q (λ z. absurd (omega arith)) (λ z. absurd (omega arith)) l;
   order = λ q l. u .same 2 q (λ z. absurd (omega arith)) (λ z. absurd (omega arith)) l;
@@ -127,15 +129,23 @@ gained-alike u = record {
 }
 
 -- the sheet is as it was
-pub gained-paint : {h w steps : ℕ} {near : ℕ → Type 0} {a b : List ℕ} {from end : ℕ} → Gained h w steps near a b from end → (q : ℕ) → q < h * w → plane (h * w) 0 b q ≡ plane (h * w) 0 a q
+pub gained-paint : {grid : Grid} {near : ℕ → Type 0} {a b : List ℕ} {from end : ℕ} → Gained grid near a b from end → (q : ℕ) → q < areaOf grid → plane (areaOf grid) 0 b q ≡ plane (areaOf grid) 0 a q
 gained-paint u q l = u .same 0 q (λ z. absurd (omega arith)) (λ z. absurd (omega arith)) l
 
+-- so a neighbour of a place has its paint exactly if it had
+module _ {grid : Grid} {near : ℕ → Type 0} {a b : List ℕ} {from end : ℕ} (u : Gained grid near a b from end) (p q : ℕ) (lp : p < areaOf grid) (lq : q < areaOf grid) where
+  pub matches-now : Matches grid a p q → Matches grid b p q
+  matches-now z = (z .0, gained-paint u q lq ∙ z .1 ∙ sym (gained-paint u p lp))
+
+  pub matches-was : Matches grid b p q → Matches grid a p q
+  matches-was z = (z .0, sym (gained-paint u q lq) ∙ z .1 ∙ gained-paint u p lp)
+
 -- one after the other
-module _ {h w steps : ℕ} {first second : ℕ → Type 0} {a b c : List ℕ} {from mid end : ℕ} (u : Gained h w steps first a b from mid) (v : Gained h w steps second b c mid end) where
-  label-mid : (q : ℕ) → q < h * w → plane (h * w) 1 b q ≡ plane (h * w) 1 a q
+module _ {grid : Grid} {first second : ℕ → Type 0} {a b c : List ℕ} {from mid end : ℕ} (u : Gained grid first a b from mid) (v : Gained grid second b c mid end) where
+  label-mid : (q : ℕ) → q < areaOf grid → plane (areaOf grid) 1 b q ≡ plane (areaOf grid) 1 a q
   label-mid q l = gained-alike u .label q l
 
-  pub gained-trans : Gained h w steps (λ q. first q ⊎ second q) a c from end
+  pub gained-trans : Gained grid (λ q. first q ⊎ second q) a c from end
   gained-trans = record {
     len = v .len ∙ u .len;
     growth = v .growth;
@@ -144,11 +154,11 @@ module _ {h w steps : ℕ} {first second : ℕ → Type 0} {a b c : List ℕ} {f
     told = λ q l z y. ⊎-elim (λ i. gained-old v q l (u .told q l i y)) (λ i. v .told q l i (rw (label-mid q l) y)) z;
     rises = omega (arith, u .rises, v .rises);
     kept = λ i l. v .kept i (omega (arith, u .rises)) ∙ u .kept i l;
-    logged = logged-trans (h * w) (plane (h * w) 1 a) (plane (h * w) 1 b) (largeOf (h * w) a) (largeOf (h * w) b) (largeOf (h * w) c) (plane (h * w) 7 b) (plane (h * w) 7 c) from mid end
+    logged = logged-trans (areaOf grid) (plane (areaOf grid) 1 a) (plane (areaOf grid) 1 b) (largeOf (areaOf grid) a) (largeOf (areaOf grid) b) (largeOf (areaOf grid) c) (plane (areaOf grid) 7 b) (plane (areaOf grid) 7 c) from mid end
         (u .rises) (v .rises) label-mid (gained-old u) (gained-old v) (v .kept) (u .logged) (v .logged);
   }
     where
-      flags′ : (q : ℕ) → q < h * w → (plane (h * w) 5 c q ≡ plane (h * w) 5 a q) ⊎ ((plane (h * w) 5 c q ≡ 1) × Cause (h * w) a (λ x. first x ⊎ second x) q)
+      flags′ : (q : ℕ) → q < areaOf grid → (plane (areaOf grid) 5 c q ≡ plane (areaOf grid) 5 a q) ⊎ ((plane (areaOf grid) 5 c q ≡ 1) × Cause (areaOf grid) a (λ x. first x ⊎ second x) q)
       flags′ q l =
           ⊎-elim
           (λ e. ⊎-elim (λ f. inl (e ∙ f)) (λ f. let z = f .1 in inr (e ∙ f .0, record { by = z .by; inside = z .inside; named = inl (z .named); label = z .label; group = z .group; little = z .little })) (u .flags q l))
@@ -162,16 +172,16 @@ module _ {h w steps : ℕ} {first second : ℕ → Type 0} {a b c : List ℕ} {f
               named = inr (z .named);
               label = rw i at (z .label);
               group = sym (label-mid q l) ∙ z .group ∙ i;
-              little = case (largeOf (h * w) a (z .by)) (λ y. clash (gained-old u (z .by) (z .inside) y) (z .little)) (λ y. y);
+              little = case (largeOf (areaOf grid) a (z .by)) (λ y. clash (gained-old u (z .by) (z .inside) y) (z .little)) (λ y. y);
             },
           ))
           (v .flags q l)
 
 -- ---- one group
 
-module _ (h w steps end : ℕ) (a : List ℕ) (g : Growth h w steps end a) (q at : ℕ) (lq : q < h * w) (eq : plane (h * w) 1 a q ≡ suc at) (lit : largeOf (h * w) a q ≡ false) where
+module _ (grid : Grid) (end : ℕ) (a : List ℕ) (g : Growth grid end a) (q at : ℕ) (lq : q < areaOf grid) (eq : plane (areaOf grid) 1 a q ≡ suc at) (lit : largeOf (areaOf grid) a q ≡ false) where
   abbrev n : ℕ
-  n = h * w
+  n = areaOf grid
 
   small : (x : ℕ) → x < n → plane n 1 a x ≡ suc at → largeOf n a x ≡ false
   small x l e = g .whole x q l lq (omega arith) (e ∙ sym eq) ∙ lit
@@ -242,7 +252,7 @@ module _ (h w steps end : ℕ) (a : List ℕ) (g : Growth h w steps end a) (q at
     idle-not : idle n c q ≡ false
     idle-not = case (idle n c q) (λ y. clash (big-one n c q (mine q lq eq)) (idle-record n c q y .little)) (λ y. y)
 
-    sheet-grown : GroupedSheet h w steps c
+    sheet-grown : GroupedSheet grid c
     sheet-grown =
         let d = g .sheet in
         record {
@@ -259,7 +269,7 @@ module _ (h w steps end : ℕ) (a : List ℕ) (g : Growth h w steps end a) (q at
           groups = λ x t l e. group-alike alike t (d .groups x t l (sym (label x l) ∙ e));
         }
 
-    growth-grown : Growth h w steps (suc end) c
+    growth-grown : Growth grid (suc end) c
     growth-grown = record {
       sheet = sheet-grown;
       whole = λ x y l m p e. let e′ : plane n 1 a x ≡ plane n 1 a y = sym (label x l) ∙ e ∙ label y m in
@@ -271,7 +281,7 @@ module _ (h w steps end : ℕ) (a : List ℕ) (g : Growth h w steps end a) (q at
     }
 
     -- it alone is gained
-    pub gained-one : (near : ℕ → Type 0) → near q → ((x : ℕ) → near x → x ≡ q) → Gained h w steps near a c end (suc end)
+    pub gained-one : (near : ℕ → Type 0) → near q → ((x : ℕ) → near x → x ≡ q) → Gained grid near a c end (suc end)
     gained-one near is only = record {
       len = length-set b i at ∙ s .len;
       growth = growth-grown;

@@ -1,5 +1,5 @@
 -- The second half of a pass on the planes: once every fate is told, repainting and absorbing make large exactly what the pass makes large, and log it. Assumes nothing.
-use Prim.Native.Nat.{ℕ, suc, _+_, _-_, _*_, _≤_, _<_}
+use Prim.Native.Nat.{ℕ, suc, _+_, _-_, _≤_, _<_}
 use mathlib.Core.Path.{_≡_, refl, sym, ap, _∙_}
 use mathlib.Core.Logic.{inl, inr, ⊎-elim}
 use mathlib.Core.Bool.{true, cond}
@@ -16,13 +16,14 @@ use Rattle.rules.specs.Pass.{Rule, State, Verdict, stay, merge, freeze, large, 
 use Rattle.rules.proofs.Roots.{opaque-below}
 use Rattle.rules.proofs.Passes.{large-opaque, not-both, fate-at, cell-at, repainted, repaints-below, repainted-small, unpainted-kept}
 use Rattle.rules.proofs.Groups.{Ready, takes, Grown}
-use Rattle.grid.specs.Steps.{hood}
+use Rattle.grid.specs.declared.Grid.{Grid}
 use Rattle.grid.specs.Planes.{plane, paintOf, cellOf, cellsOf}
 use Rattle.grid.proofs.Planes.{cells-at, cells-paint}
-use Rattle.verdicts.specs.Judging.{stateOf, code, largeOf, Sound}
-use Rattle.frontier.specs.Judging.{Chosen, Met}
+use Rattle.verdicts.specs.Steps.{areaOf}
+use Rattle.verdicts.specs.Judging.{stateOf, code, largeOf}
+use Rattle.frontier.specs.Judging.{Chosen, Stage, Met}
 use Rattle.frontier.proofs.Growth.{merges-code, Growing, growing-start, absorbed-grows, growing-end}
-use Rattle.frontier.specs.Growing.{Logged, Listed, Beside, Repainted, Gained, Decided, Grew}
+use Rattle.frontier.specs.Growing.{Logged, Listed, MatchesLogged, Repainted, Gained, Decided, Grew}
 use Rattle.frontier.proofs.Progress.{sound-ready}
 use Rattle.frontier.proofs.Repaints.{repainted-alike}
 use Rattle.frontier.proofs.Gains.{big-same, logged-trans, gained-old, gained-alike}
@@ -35,17 +36,22 @@ painted-code stay z e = clash e refl
 painted-code (merge c d) z e = (let i : c + 2 - 1 ≡ suc c = omega arith in rw i, omega arith)
 painted-code (freeze c d) z e = clash e refl
 
-module _ (rule : Rule) (symm : Symmetric (rule .adj)) (h w steps k : ℕ) (size : rule .places ≡ h * w) (ways : (p q : ℕ) → rule .adj p q ≡ hood steps w p q)
-    (met : ℕ → Type 0) (a b : List ℕ) (from mid : ℕ) (sound : Sound rule (h * w) a) (u : Met rule h w steps k met a b from mid)
-    (ends : (x : ℕ) → x < rule .places → 0 < plane (h * w) 1 a x → code (fate (fates rule (stateOf (h * w) a)) x) ≡ cond (eqb (plane (h * w) 6 a (plane (h * w) 1 a x - 1)) 0) (plane (h * w) 6 b (plane (h * w) 1 a x - 1)) 0) where
+module _ {rule : Rule} {grid : Grid} {k : ℕ} {met : ℕ → Type 0} {a b : List ℕ} {from mid : ℕ} (st : Stage rule grid k from a) (u : Met rule grid k met a b from mid)
+    (ends : (x : ℕ) → x < rule .places → 0 < plane (areaOf grid) 1 a x → code (fate (fates rule (stateOf (areaOf grid) a)) x) ≡ cond (eqb (plane (areaOf grid) 6 a (plane (areaOf grid) 1 a x - 1)) 0) (plane (areaOf grid) 6 b (plane (areaOf grid) 1 a x - 1)) 0) where
   abbrev n : ℕ
-  n = h * w
+  n = areaOf grid
+
+  abbrev size : rule .places ≡ n
+  size = st .ruled .size
+
+  abbrev symm : Symmetric (rule .adj)
+  symm = st .ruled .symm
 
   abbrev s : State
-  s = stateOf (h * w) a
+  s = stateOf n a
 
   ready : Ready rule s (plane n 1 a) (largeOf n a) (large rule (cellsOf n a))
-  ready = sound-ready rule symm n size a sound
+  ready = sound-ready rule symm n size a (st .sound)
 
   abbrev len : length (s .cells) ≡ rule .places
   len = ready .grouped .size
@@ -111,7 +117,7 @@ module _ (rule : Rule) (symm : Symmetric (rule .adj)) (h w steps k : ℕ) (size 
       growing-start rule symm (stateOf n b) (plane n 1 b) (largeOf n b) (large rule (cellsOf n b)) (sound-ready rule symm n size b (u .stage .sound)) .whole x y (to-rule x l) (to-rule y m) z e
 
   -- what grow asks, if what was repainted before this pass is large
-  pub met-decided : ((x t : ℕ) → x < n → plane n 1 a x ≡ suc t → 2 ≤ plane n 6 a t → largeOf n a x ≡ true) → Decided h w steps from mid b
+  pub met-decided : ((x t : ℕ) → x < n → plane n 1 a x ≡ suc t → 2 ≤ plane n 6 a t → largeOf n a x ≡ true) → Decided grid from mid b
   met-decided old = record {
     sheet = u .stage .sheet;
     whole = whole-b;
@@ -129,27 +135,27 @@ module _ (rule : Rule) (symm : Symmetric (rule .adj)) (h w steps k : ℕ) (size 
 
   -- ---- the chosen groups are repainted, and the small groups of their paint beside them become large
 
-  module _ (dec : Decided h w steps from mid b) (d : List ℕ) (end : ℕ) (grew : Grew h w steps from mid b d end) where
+  module _ (dec : Decided grid from mid b) {d : List ℕ} {end : ℕ} (grew : Grew grid from mid b d end) where
     abbrev c : List ℕ
     c = grew .between
 
     abbrev r : Repainted n (Listed n b from mid) b c
     r = grew .repainted
 
-    abbrev v : Gained h w steps (Beside h w steps c from mid) c d mid end
+    abbrev v : Gained grid (MatchesLogged grid c from mid) c d mid end
     v = grew .gained
 
     label-c : (x : ℕ) → x < n → plane n 1 c x ≡ plane n 1 a x
     label-c x l = repainted-alike r .label x l ∙ label-b x l
 
     taken-big : (x l : ℕ) → x < n → plane n 1 b x ≡ suc l → Listed n b from mid l → largeOf n c x ≡ true
-    taken-big x l m e z = repainted-big h w steps from mid b c dec r x l m e z
+    taken-big x l m e z = repainted-big dec r x l m e z
 
     was-big : (x : ℕ) → x < n → largeOf n a x ≡ true → largeOf n c x ≡ true
-    was-big x l y = old-big h w steps from mid b c dec r x l (u .large x l ∙ y)
+    was-big x l y = old-big dec r x l (u .large x l ∙ y)
 
     log-c : (i : ℕ) → i < mid → plane n 7 c i ≡ plane n 7 b i
-    log-c i l = log-still h w steps from mid b c dec r i l
+    log-c i l = log-still dec r i l
 
     -- plane 0 holds the sheet of the pass
     pub painted-cells : (x : ℕ) → x < n → at (pass rule s .cells) x ≡ at (cellsOf n c) x
@@ -170,7 +176,7 @@ module _ (rule : Rule) (symm : Symmetric (rule .adj)) (h w steps k : ℕ) (size 
           (λ z. inl (sym (big-same n b c x (z .1) ∙ u .large x m) ∙ y))
           (λ z. inr (takes (chosen-repaints x (z .0) m (sym (label-b x m) ∙ z .1) (listed-chosen (z .0) (z .2)))))
           (r .each x m);
-      whole = λ x y l m z e. let lx = of-rule x l in let ly = of-rule y m in whole-still h w steps from mid b c dec r x y lx ly (rw (label-b x lx) z) (label-b x lx ∙ e ∙ sym (label-b y ly));
+      whole = λ x y l m z e. let lx = of-rule x l in let ly = of-rule y m in whole-still dec r x y lx ly (rw (label-b x lx) z) (label-b x lx ∙ e ∙ sym (label-b y ly));
     }
 
     done-c : (x : ℕ) → repaints rule s x ≡ true → largeOf n c x ≡ true
@@ -208,11 +214,11 @@ module _ (rule : Rule) (symm : Symmetric (rule .adj)) (h w steps k : ℕ) (size 
           (λ z. growing-c .only x l (sym (big-same n c d x z) ∙ y))
           (λ z. let f = z .1 in
           let t = f .named in
-          let p = t .3 in
-          let lab : plane n 1 a p ≡ suc (plane n 7 b (t .0)) = sym (label-c p (t .4)) ∙ t .5 ∙ ap suc (log-c (t .0) (t .2)) in
+          let p = t .3 .0 in
+          let lab : plane n 1 a p ≡ suc (plane n 7 b (t .0)) = sym (label-c p (t .3 .1)) ∙ t .3 .2 ∙ ap suc (log-c (t .0) (t .2)) in
           let by-label = label-c (f .by) (f .inside) in
           inr (absorbed-grows rule symm s (plane n 1 a) (largeOf n a) (large rule (cellsOf n a)) ready (largeOf n c) growing-c (λ q b′ e. done-c q e) p (f .by) (to-rule (f .by) (f .inside)) (rw by-label at (f .label)) (f .little)
-          (ways p (f .by) ∙ t .6) (chosen-repaints p (plane n 7 b (t .0)) (t .4) lab (u .log .named (t .0) (t .1) (t .2))) (same-cell p (f .by) (t .4) (f .inside) (sym (t .7)))
+          (st .ruled .ways p (f .by) ∙ t .3 .3 .0) (chosen-repaints p (plane n 7 b (t .0)) (t .3 .1) lab (u .log .named (t .0) (t .1) (t .2))) (same-cell p (f .by) (t .3 .1) (f .inside) (sym (t .3 .3 .1)))
           x l (sym (label-c x m) ∙ f .group ∙ by-label)))
           (v .flags x m);
       whole = λ x y l m z e. let lx = of-rule x l in let ly = of-rule y m in v .growth .whole x y lx ly (rw (label-d x lx) z) (label-d x lx ∙ e ∙ sym (label-d y ly));
@@ -226,7 +232,7 @@ module _ (rule : Rule) (symm : Symmetric (rule .adj)) (h w steps k : ℕ) (size 
         (λ z q l g e rp i. let m = of-rule q l in
         let ch = repaints-chosen z rp in
         let j = u .log .all (ch .1) (ch .3) in
-        v .told q m (j .0, j .1, j .2, z, ch .0, label-c z (ch .0) ∙ ch .2 ∙ ap suc (sym (log-c (j .0) (j .2) ∙ j .3)), sym (ways z q) ∙ e, same-paint q z m (ch .0) (sym i)) (rw (label-c q m) g))
+        v .told q m (j .0, j .1, j .2, (z, ch .0, label-c z (ch .0) ∙ ch .2 ∙ ap suc (sym (log-c (j .0) (j .2) ∙ j .3)), (sym (st .ruled .ways z q) ∙ e, same-paint q z m (ch .0) (sym i)))) (rw (label-c q m) g))
 
     -- the log's new stretch names exactly the groups that grew
     pub grown-log : Logged n (plane n 1 a) (largeOf n a) (largeOf n d) (plane n 7 d) from end

@@ -1,9 +1,10 @@
 -- Judging one group after the other, seen from the start of the pass. Assumes nothing.
-use Prim.Native.Nat.{ℕ, suc, _-_, _*_, _<_}
+use Prim.Native.Nat.{ℕ, suc, _-_, _<_}
 use mathlib.Core.Path.{_≡_, refl, sym, ap, _∙_}
 use mathlib.Core.Logic.{_⊎_, inl, inr, ⊎-elim}
 use mathlib.Core.Bool.{Bool, true, false, not, _&&_, _||_}
 use mathlib.Core.List.{List}
+use mathlib.Core.Option.{Option, none, some}
 use native.Mathlib.Decide.{ℕ-discrete}
 use native.Mathlib.Omega.{arith}
 use borrow.Author.Tests.{ne-eqb}
@@ -15,11 +16,13 @@ use Rattle.rules.proofs.Roots.{join-right, opaque-below}
 use Rattle.rules.proofs.Passes.{small-or-large}
 use Rattle.rules.proofs.Frontier.{withFrozen, fate-local, fate-large, fronted-start}
 use Rattle.rules.proofs.Groups.{Ready}
+use Rattle.grid.specs.declared.Grid.{Grid}
 use Rattle.grid.specs.Planes.{plane, cellsOf, endOf}
 use Rattle.grid.proofs.Planes.{cells-kept, cells-size}
+use Rattle.verdicts.specs.Steps.{areaOf}
 use Rattle.verdicts.specs.Judging.{stateOf, code, largeOf, Sound}
-use Rattle.frontier.specs.Judging.{Judging, frozenOf, Noted, Stage, Met, Small}
-use Rattle.verdicts.specs.Groups.{Group}
+use Rattle.frontier.specs.Judging.{Judging, frozenOf, Noted, Stage, Met, smallLabel, Small}
+use Rattle.verdicts.specs.Groups.{Group, GroupedSheet}
 use Rattle.verdicts.proofs.Keeping.{group-alike}
 use Rattle.frontier.proofs.Stages.{frozen-is, stage-noted}
 use Rattle.frontier.proofs.Filing.{filed-start, filed-trans, filed-noted}
@@ -158,77 +161,8 @@ sound-ready rule symm n e a s = record {
   fronted = fronted-start rule symm (stateOf n a) (cells-size n a ∙ sym e);
 }
 
-module _ (rule : Rule) (symm : Symmetric (rule .adj)) (h w steps k : ℕ) (e : rule .places ≡ h * w) (a : List ℕ) (sound : Sound rule (h * w) a) where
-  ready : Ready rule (stateOf (h * w) a) (plane (h * w) 1 a) (largeOf (h * w) a) (large rule (cellsOf (h * w) a))
-  ready = sound-ready rule symm (h * w) e a sound
-
-  thaw-at : (x at : ℕ) → x < h * w → plane (h * w) 1 a x ≡ suc at → plane (h * w) 6 a at ≡ 0 → marked (stateOf (h * w) a .frozen) x ≡ false
-  thaw-at x at l y z = case (marked (stateOf (h * w) a .frozen) x) (λ q. absurd (sound .thawed x at l y z q)) (λ q. q)
-
-  pub met-start : (end : ℕ) → Stage rule h w steps k end a → Met rule h w steps k (λ l. ⊥) a a end end
-  unfolding frozenOf
-  met-start end st =
-      record {
-        len = refl;
-        stage = st;
-        same = λ i q l z. refl;
-        large = λ q l. refl;
-        judging = record { each = λ x l z. inl refl; frozen = λ x l z. sym (frozen-is (h * w) a x (rw (← e) l)) ∙ none-more (marked (stateOf (h * w) a .frozen) x) _ (not-both (plane (h * w) 6 a (plane (h * w) 1 a x - 1))) };
-        numbered = λ x at l y z. absurd z;
-        log = filed-start (h * w) end a;
-      }
-
-  module _ (met : ℕ → Type 0) (from end at : ℕ) (b : List ℕ) (u : Met rule h w steps k met a b from end) (g : Group (h * w) b at) (c : List ℕ) (r : ℕ) (v : Noted rule (h * w) at end b c r) where
-    pub met-step : Met rule h w steps k (λ l. met l ⊎ (l ≡ at)) a c from r
-    met-step = record {
-      len = v .len ∙ u .len;
-      stage = stage-noted rule h w steps k at end b (u .stage) g c r v;
-      same = λ i q l z. v .same i q l z ∙ u .same i q l z;
-      large = λ q l. v .large q l ∙ u .large q l;
-      judging = judging-noted rule symm (h * w) e a b (largeOf (h * w) a) (large rule (cellsOf (h * w) a)) ready thaw-at (u .same) (u .judging) at end c r v lead (lead-at .0) lead-in in-use;
-      numbered = numbered′;
-      log = filed-trans (h * w) from end r a b c (λ q l. u .same 1 q (omega arith) l) was stays (u .log)
-          (filed-noted rule (h * w) at end b c r v (λ x l b e. u .stage .sheet .groups x l b e .label) lead (lead-at .0) (lead-at .1));
-    }
-      where
-        lead : ℕ
-        lead = plane (h * w) 2 b (endOf (h * w) b at)
-
-        lead-at : (lead < h * w) × (plane (h * w) 1 b lead ≡ suc at)
-        lead-at = g .places (endOf (h * w) b at) (omega arith) (g .some)
-
-        lead-in : plane (h * w) 1 a lead ≡ suc at
-        lead-in = sym (u .same 1 lead (omega arith) (lead-at .0)) ∙ lead-at .1
-
-        in-use : (x : ℕ) → x < h * w → 0 < plane (h * w) 1 a x → plane (h * w) 1 a x - 1 < h * w
-        in-use x l z = u .stage .sheet .groups x (plane (h * w) 1 a x - 1) l (u .same 1 x (omega arith) l ∙ omega arith) .label
-
-        was : (x t : ℕ) → x < h * w → plane (h * w) 1 a x ≡ suc t → plane (h * w) 6 b t ≡ 0 → plane (h * w) 6 a t ≡ 0
-        was x t l y z = free-was rule symm (h * w) e a b (largeOf (h * w) a) (large rule (cellsOf (h * w) a)) ready thaw-at (u .same) (u .judging) x t l y z
-
-        stays : (x t : ℕ) → x < h * w → plane (h * w) 1 a x ≡ suc t → (plane (h * w) 6 b t ≡ 0 → ⊥) → plane (h * w) 6 c t ≡ plane (h * w) 6 b t
-        stays x t l y z =
-            let lt : t < h * w = u .stage .sheet .groups x t l (u .same 1 x (omega arith) l ∙ y) .label in
-            elim (ℕ-discrete t at) [ no d ↦ v .numbers t lt d | yes i ↦ ap (plane (h * w) 6 c) i ∙ v .done (λ q. z (ap (plane (h * w) 6 b) i ∙ q)) ∙ ap (plane (h * w) 6 b) (sym i) ]
-
-        numbered′ : (x t : ℕ) → x < h * w → plane (h * w) 1 a x ≡ suc t → met t ⊎ (t ≡ at) → plane (h * w) 6 a t ≡ 0 → plane (h * w) 6 c t ≡ code (fate (fates rule (stateOf (h * w) a)) x)
-        numbered′ x t l y z f =
-            let lt : t < h * w = u .stage .sheet .groups x t l (u .same 1 x (omega arith) l ∙ y) .label in
-            let k1 : plane (h * w) 1 a x - 1 ≡ t = omega arith in
-            elim (ℕ-discrete t at) [
-              | no d ↦ ⊎-elim (λ i. v .numbers t lt d ∙ u .numbered x t l y i f) (λ i. absurd (d i)) z
-              | yes i ↦ (elim (ℕ-discrete (plane (h * w) 6 b t) 0) [
-                | yes o ↦ (let o′ : plane (h * w) 6 b at ≡ 0 = rw i at o in
-                    let y′ : plane (h * w) 1 a x ≡ suc at = rw i at y in
-                    ap (plane (h * w) 6 c) i ∙ v .right o′ x l (u .same 1 x (omega arith) l ∙ y′)
-                    ∙ ap code (fate-same rule symm (h * w) e a b (largeOf (h * w) a) (large rule (cellsOf (h * w) a)) ready thaw-at (u .same) (u .judging) x at l y′ o′))
-                | no o ↦ (let done : plane (h * w) 6 c t ≡ plane (h * w) 6 b t = ap (plane (h * w) 6 c) i ∙ v .done (λ q. o (ap (plane (h * w) 6 b) i ∙ q)) ∙ ap (plane (h * w) 6 b) (sym i) in
-                    ⊎-elim (λ q. absurd (o (sym (ap (plane (h * w) 6 b) k1) ∙ q ∙ ap (plane (h * w) 6 a) k1 ∙ f))) (λ q. done ∙ sym (ap (plane (h * w) 6 b) k1) ∙ q .1) (u .judging .each x (rw e l) (omega arith)))
-              ])
-            ]
-
 -- fewer groups are named
-pub met-fewer : {rule : Rule} {h w steps k : ℕ} {met less : ℕ → Type 0} {a b : List ℕ} {from end : ℕ} → ((l : ℕ) → less l → met l) → Met rule h w steps k met a b from end → Met rule h w steps k less a b from end
+pub met-fewer : {rule : Rule} {grid : Grid} {k : ℕ} {met less : ℕ → Type 0} {a b : List ℕ} {from end : ℕ} → ((l : ℕ) → less l → met l) → Met rule grid k met a b from end → Met rule grid k less a b from end
 met-fewer f u = record {
   len = u .len;
   stage = u .stage;
@@ -239,105 +173,221 @@ met-fewer f u = record {
   log = u .log;
 }
 
+-- a small group that another place names
+renamed : {n l : ℕ} {a : List ℕ} {near far : ℕ → Type 0} (z : Small n a near l) → far (z .place) → Small n a far l
+renamed z y = record { place = z .place; named = y; inside = z .inside; little = z .little; label = z .label }
+
+-- the small groups by another name of their places
+pub met-as : {rule : Rule} {grid : Grid} {k : ℕ} {near far : ℕ → Type 0} {a b : List ℕ} {from end : ℕ} → ((q : ℕ) → q < areaOf grid → far q → near q) → Met rule grid k (Small (areaOf grid) a near) a b from end → Met rule grid k (Small (areaOf grid) a far) a b from end
+met-as f = met-fewer (λ l z. renamed z (f (z .place) (z .inside) (z .named)))
+
 -- a group is where it was
-pub met-group : {rule : Rule} {h w steps k : ℕ} {met : ℕ → Type 0} {a b : List ℕ} {from end at : ℕ} → Met rule h w steps k met a b from end → Group (h * w) a at → Group (h * w) b at
+pub met-group : {rule : Rule} {grid : Grid} {k : ℕ} {met : ℕ → Type 0} {a b : List ℕ} {from end at : ℕ} → Met rule grid k met a b from end → Group (areaOf grid) a at → Group (areaOf grid) b at
 met-group {at = at} u g =
     group-alike (record { label = λ q l. u .same 1 q (omega arith) l; order = λ q l. u .same 2 q (omega arith) l; ends = λ q l. u .same 3 q (omega arith) l }) at g
 
--- ---- one judging after another
+-- the planes at the start of a pass
+module _ {rule : Rule} {grid : Grid} {k from : ℕ} {a : List ℕ} (st : Stage rule grid k from a) where
+  abbrev n : ℕ
+  n = areaOf grid
 
-module _ (rule : Rule) (symm : Symmetric (rule .adj)) (h w steps k : ℕ) (e : rule .places ≡ h * w) (a b c : List ℕ) (sound : Sound rule (h * w) a) (first second : ℕ → Type 0) (from mid end : ℕ)
-    (u : Met rule h w steps k first a b from mid) (v : Met rule h w steps k second b c mid end) where
-  abbrev sa : State
-  sa = stateOf (h * w) a
+  abbrev e : rule .places ≡ n
+  e = st .ruled .size
 
-  abbrev num : List ℕ → ℕ → ℕ
-  num l x = plane (h * w) 6 l (plane (h * w) 1 a x - 1)
+  abbrev symm : Symmetric (rule .adj)
+  symm = st .ruled .symm
 
-  label-mid : (x : ℕ) → x < h * w → plane (h * w) 1 b x ≡ plane (h * w) 1 a x
-  label-mid x l = u .same 1 x (omega arith) l
+  ready : Ready rule (stateOf n a) (plane n 1 a) (largeOf n a) (large rule (cellsOf n a))
+  ready = sound-ready rule symm n e a (st .sound)
 
-  -- what a group of b without a number is in a
-  mid-free : (x : ℕ) → x < h * w → 0 < plane (h * w) 1 a x → num b x ≡ 0 → (num a x ≡ 0) × (fate (fates rule (stateOf (h * w) b)) x ≡ fate (fates rule sa) x)
-  mid-free x l z o =
-      let y : plane (h * w) 1 a x ≡ suc (plane (h * w) 1 a x - 1) = omega arith in
-      let r = sound-ready rule symm (h * w) e a sound in
-      let t = thaw-at rule symm h w steps k e a sound in (
-        free-was rule symm (h * w) e a b (largeOf (h * w) a) (large rule (cellsOf (h * w) a)) r t (u .same) (u .judging) x (plane (h * w) 1 a x - 1) l y o,
-        fate-same rule symm (h * w) e a b (largeOf (h * w) a) (large rule (cellsOf (h * w) a)) r t (u .same) (u .judging) x (plane (h * w) 1 a x - 1) l y o,
-      )
+  thaw-at : (x at : ℕ) → x < n → plane n 1 a x ≡ suc at → plane n 6 a at ≡ 0 → marked (stateOf n a .frozen) x ≡ false
+  thaw-at x at l y z = case (marked (stateOf n a .frozen) x) (λ q. absurd (st .sound .thawed x at l y z q)) (λ q. q)
 
-  -- the second judging, by the labels of a
-  each-then : (x : ℕ) → x < h * w → 0 < plane (h * w) 1 a x → (num c x ≡ num b x) ⊎ ((num b x ≡ 0) × (num c x ≡ code (fate (fates rule (stateOf (h * w) b)) x)))
-  each-then x l z = let i = label-mid x l in rw i at (v .judging .each x (rw e l) (rw i z))
-
-  pub met-trans : Met rule h w steps k (λ l. first l ⊎ second l) a c from end
+  -- no group is judged yet
+  pub met-start : Met rule grid k (λ l. ⊥) a a from from
   unfolding frozenOf
-  met-trans = record {
-    len = v .len ∙ u .len;
-    stage = v .stage;
-    same = λ i q l z. v .same i q l z ∙ u .same i q l z;
-    large = λ q l. v .large q l ∙ u .large q l;
-    judging = record { each = λ x l z. each′ x (rw (← e) l) z; frozen = λ x l z. frozen′ x (rw (← e) l) z };
-    numbered = numbered′;
-    log = filed-trans (h * w) from mid end a b c label-mid was stays (u .log) (v .log);
-  }
-    where
-      each′ : (x : ℕ) → x < h * w → 0 < plane (h * w) 1 a x → (num c x ≡ num a x) ⊎ ((num a x ≡ 0) × (num c x ≡ code (fate (fates rule sa) x)))
-      each′ x l z =
-          ⊎-elim
-          (λ i. ⊎-elim (λ j. inl (i ∙ j)) (λ j. inr (j .0, i ∙ j .1)) (u .judging .each x (rw e l) z))
-          (λ i. let f = mid-free x l z (i .0) in inr (f .0, i .1 ∙ ap code (f .1)))
-          (each-then x l z)
+  met-start =
+      record {
+        len = refl;
+        stage = st;
+        same = λ i q l z. refl;
+        large = λ q l. refl;
+        judging = record { each = λ x l z. inl refl; frozen = λ x l z. sym (frozen-is n a x (rw (← e) l)) ∙ none-more (marked (stateOf n a .frozen) x) _ (not-both (plane n 6 a (plane n 1 a x - 1))) };
+        numbered = λ x at l y z. absurd z;
+        log = filed-start n from a;
+      }
 
-      frozen′ : (x : ℕ) → x < h * w → 0 < plane (h * w) 1 a x → frozenOf (h * w) c x ≡ (marked (sa .frozen) x || (eqb (num a x) 0 && eqb (num c x) 1))
-      frozen′ x l z =
-          let i = label-mid x l in
-          let fc : frozenOf (h * w) c x ≡ (marked (stateOf (h * w) b .frozen) x || (eqb (num b x) 0 && eqb (num c x) 1)) = rw i at (v .judging .frozen x (rw e l) (rw i z)) in
-          let fb : marked (stateOf (h * w) b .frozen) x ≡ (marked (sa .frozen) x || (eqb (num a x) 0 && eqb (num b x) 1)) = frozen-is (h * w) b x l ∙ u .judging .frozen x (rw e l) z in
-          elim (ℕ-discrete (num b x) 0) [
-            | yes o ↦ (let na = mid-free x l z o .0 in fc ∙ rw (fb, o, na) (join-none (marked (sa .frozen) x) (eqb (num c x) 1)))
-            | no o ↦ (let j : num c x ≡ num b x = ⊎-elim (λ q. q) (λ q. absurd (o (q .0))) (each-then x l z) in
-                fc ∙ sym (none-more (marked (stateOf (h * w) b .frozen) x) (eqb (num b x) 0 && eqb (num c x) 1) (rw (ne-eqb (num b x) 0 o))) ∙ fb
-                ∙ ap (λ (n : ℕ). marked (sa .frozen) x || (eqb (num a x) 0 && eqb n 1)) (sym j))
-          ]
+  -- one more is
+  module _ {met : ℕ → Type 0} {end at : ℕ} {b : List ℕ} (u : Met rule grid k met a b from end) (g : Group n b at) {c : List ℕ} {r : ℕ} (v : Noted rule n at end b c r) where
+    pub met-step : Met rule grid k (λ l. met l ⊎ (l ≡ at)) a c from r
+    met-step = record {
+      len = v .len ∙ u .len;
+      stage = stage-noted (u .stage) g v;
+      same = λ i q l z. v .same i q l z ∙ u .same i q l z;
+      large = λ q l. v .large q l ∙ u .large q l;
+      judging = judging-noted rule symm n e a b (largeOf n a) (large rule (cellsOf n a)) ready thaw-at (u .same) (u .judging) at end c r v lead (lead-at .0) lead-in in-use;
+      numbered = numbered′;
+      log = filed-trans n from end r a b c (λ q l. u .same 1 q (omega arith) l) was stays (u .log)
+          (filed-noted rule n at end b c r v (λ x l b e. u .stage .sheet .groups x l b e .label) lead (lead-at .0) (lead-at .1));
+    }
+      where
+        lead : ℕ
+        lead = plane n 2 b (endOf n b at)
 
-      was : (x t : ℕ) → x < h * w → plane (h * w) 1 a x ≡ suc t → plane (h * w) 6 b t ≡ 0 → plane (h * w) 6 a t ≡ 0
-      was x t l y z =
-          let k1 : plane (h * w) 1 a x - 1 ≡ t = omega arith in
-          sym (ap (plane (h * w) 6 a) k1) ∙ mid-free x l (omega arith) (ap (plane (h * w) 6 b) k1 ∙ z) .0
+        lead-at : (lead < n) × (plane n 1 b lead ≡ suc at)
+        lead-at = g .places (endOf n b at) (omega arith) (g .some)
 
-      stays : (x t : ℕ) → x < h * w → plane (h * w) 1 a x ≡ suc t → (plane (h * w) 6 b t ≡ 0 → ⊥) → plane (h * w) 6 c t ≡ plane (h * w) 6 b t
-      stays x t l y z =
-          let k1 : plane (h * w) 1 a x - 1 ≡ t = omega arith in
-          let nb : num b x ≡ plane (h * w) 6 b t = ap (plane (h * w) 6 b) k1 in
-          sym (ap (plane (h * w) 6 c) k1) ∙ ⊎-elim (λ i. i) (λ i. absurd (z (sym nb ∙ i .0))) (each-then x l (omega arith)) ∙ nb
+        lead-in : plane n 1 a lead ≡ suc at
+        lead-in = sym (u .same 1 lead (omega arith) (lead-at .0)) ∙ lead-at .1
 
-      numbered′ : (x t : ℕ) → x < h * w → plane (h * w) 1 a x ≡ suc t → first t ⊎ second t → plane (h * w) 6 a t ≡ 0 → plane (h * w) 6 c t ≡ code (fate (fates rule sa) x)
-      numbered′ x t l y z f =
-          let k1 : plane (h * w) 1 a x - 1 ≡ t = omega arith in
-          let some : 0 < plane (h * w) 1 a x = omega arith in
-          let nc : num c x ≡ plane (h * w) 6 c t = ap (plane (h * w) 6 c) k1 in
-          let nb : num b x ≡ plane (h * w) 6 b t = ap (plane (h * w) 6 b) k1 in
-          let na : num a x ≡ 0 = ap (plane (h * w) 6 a) k1 ∙ f in
-          elim (ℕ-discrete (num b x) 0) [
-            | yes o ↦ ⊎-elim
-                (λ i. ⊎-elim (λ j. sym nc ∙ j ∙ nb ∙ u .numbered x t l y i f) (λ j. sym nc ∙ j .1 ∙ ap code (mid-free x l some o .1)) (each-then x l some))
-                (λ i. v .numbered x t l (label-mid x l ∙ y) i (sym nb ∙ o) ∙ ap code (mid-free x l some o .1))
-                z
-            | no o ↦ (let j : num c x ≡ num b x = ⊎-elim (λ q. q) (λ q. absurd (o (q .0))) (each-then x l some) in
-                ⊎-elim (λ q. absurd (o (q ∙ na))) (λ q. sym nc ∙ j ∙ q .1) (u .judging .each x (rw e l) some))
-          ]
+        in-use : (x : ℕ) → x < n → 0 < plane n 1 a x → plane n 1 a x - 1 < n
+        in-use x l z = u .stage .sheet .groups x (plane n 1 a x - 1) l (u .same 1 x (omega arith) l ∙ omega arith) .label
 
--- further groups are judged: the small ones that `named` names
-pub met-small : (rule : Rule) (symm : Symmetric (rule .adj)) (h w steps k : ℕ) → rule .places ≡ h * w → (a b c : List ℕ) → Sound rule (h * w) a → (first : ℕ → Type 0) (named : ℕ → Type 0) (from mid end : ℕ) →
-    Met rule h w steps k first a b from mid → Met rule h w steps k (Small (h * w) b named) b c mid end → Met rule h w steps k (λ l. first l ⊎ Small (h * w) a named l) a c from end
-met-small rule symm h w steps k e a b c sound first named from mid end u v =
-    met-fewer (λ l. ⊎-elim inl (λ z. inr (record {
-      place = z .place;
-      named = z .named;
-      inside = z .inside;
-      little = u .large (z .place) (z .inside) ∙ z .little;
-      label = u .same 1 (z .place) (omega arith) (z .inside) ∙ z .label;
-    })))
-    (met-trans rule symm h w steps k e a b c sound first (Small (h * w) b named) from mid end u v)
+        was : (x t : ℕ) → x < n → plane n 1 a x ≡ suc t → plane n 6 b t ≡ 0 → plane n 6 a t ≡ 0
+        was x t l y z = free-was rule symm n e a b (largeOf n a) (large rule (cellsOf n a)) ready thaw-at (u .same) (u .judging) x t l y z
+
+        stays : (x t : ℕ) → x < n → plane n 1 a x ≡ suc t → (plane n 6 b t ≡ 0 → ⊥) → plane n 6 c t ≡ plane n 6 b t
+        stays x t l y z =
+            let lt : t < n = u .stage .sheet .groups x t l (u .same 1 x (omega arith) l ∙ y) .label in
+            elim (ℕ-discrete t at) [ no d ↦ v .numbers t lt d | yes i ↦ ap (plane n 6 c) i ∙ v .done (λ q. z (ap (plane n 6 b) i ∙ q)) ∙ ap (plane n 6 b) (sym i) ]
+
+        numbered′ : (x t : ℕ) → x < n → plane n 1 a x ≡ suc t → met t ⊎ (t ≡ at) → plane n 6 a t ≡ 0 → plane n 6 c t ≡ code (fate (fates rule (stateOf n a)) x)
+        numbered′ x t l y z f =
+            let lt : t < n = u .stage .sheet .groups x t l (u .same 1 x (omega arith) l ∙ y) .label in
+            let k1 : plane n 1 a x - 1 ≡ t = omega arith in
+            elim (ℕ-discrete t at) [
+              | no d ↦ ⊎-elim (λ i. v .numbers t lt d ∙ u .numbered x t l y i f) (λ i. absurd (d i)) z
+              | yes i ↦ (elim (ℕ-discrete (plane n 6 b t) 0) [
+                | yes o ↦ (let o′ : plane n 6 b at ≡ 0 = rw i at o in
+                    let y′ : plane n 1 a x ≡ suc at = rw i at y in
+                    ap (plane n 6 c) i ∙ v .right o′ x l (u .same 1 x (omega arith) l ∙ y′)
+                    ∙ ap code (fate-same rule symm n e a b (largeOf n a) (large rule (cellsOf n a)) ready thaw-at (u .same) (u .judging) x at l y′ o′))
+                | no o ↦ (let done : plane n 6 c t ≡ plane n 6 b t = ap (plane n 6 c) i ∙ v .done (λ q. o (ap (plane n 6 b) i ∙ q)) ∙ ap (plane n 6 b) (sym i) in
+                    ⊎-elim (λ q. absurd (o (sym (ap (plane n 6 b) k1) ∙ q ∙ ap (plane n 6 a) k1 ∙ f))) (λ q. done ∙ sym (ap (plane n 6 b) k1) ∙ q .1) (u .judging .each x (rw e l) (omega arith)))
+              ])
+            ]
+
+  -- one judging after another
+  module _ {first second : ℕ → Type 0} {mid end : ℕ} {b c : List ℕ} (u : Met rule grid k first a b from mid) (v : Met rule grid k second b c mid end) where
+    abbrev sa : State
+    sa = stateOf n a
+
+    abbrev num : List ℕ → ℕ → ℕ
+    num l x = plane n 6 l (plane n 1 a x - 1)
+
+    label-mid : (x : ℕ) → x < n → plane n 1 b x ≡ plane n 1 a x
+    label-mid x l = u .same 1 x (omega arith) l
+
+    -- what a group of b without a number is in a
+    mid-free : (x : ℕ) → x < n → 0 < plane n 1 a x → num b x ≡ 0 → (num a x ≡ 0) × (fate (fates rule (stateOf n b)) x ≡ fate (fates rule sa) x)
+    mid-free x l z o =
+        let y : plane n 1 a x ≡ suc (plane n 1 a x - 1) = omega arith in (
+          free-was rule symm n e a b (largeOf n a) (large rule (cellsOf n a)) ready thaw-at (u .same) (u .judging) x (plane n 1 a x - 1) l y o,
+          fate-same rule symm n e a b (largeOf n a) (large rule (cellsOf n a)) ready thaw-at (u .same) (u .judging) x (plane n 1 a x - 1) l y o,
+        )
+
+    -- the second judging, by the labels of a
+    each-then : (x : ℕ) → x < n → 0 < plane n 1 a x → (num c x ≡ num b x) ⊎ ((num b x ≡ 0) × (num c x ≡ code (fate (fates rule (stateOf n b)) x)))
+    each-then x l z = let i = label-mid x l in rw i at (v .judging .each x (rw e l) (rw i z))
+
+    pub met-trans : Met rule grid k (λ l. first l ⊎ second l) a c from end
+    unfolding frozenOf
+    met-trans = record {
+      len = v .len ∙ u .len;
+      stage = v .stage;
+      same = λ i q l z. v .same i q l z ∙ u .same i q l z;
+      large = λ q l. v .large q l ∙ u .large q l;
+      judging = record { each = λ x l z. each′ x (rw (← e) l) z; frozen = λ x l z. frozen′ x (rw (← e) l) z };
+      numbered = numbered′;
+      log = filed-trans n from mid end a b c label-mid was stays (u .log) (v .log);
+    }
+      where
+        each′ : (x : ℕ) → x < n → 0 < plane n 1 a x → (num c x ≡ num a x) ⊎ ((num a x ≡ 0) × (num c x ≡ code (fate (fates rule sa) x)))
+        each′ x l z =
+            ⊎-elim
+            (λ i. ⊎-elim (λ j. inl (i ∙ j)) (λ j. inr (j .0, i ∙ j .1)) (u .judging .each x (rw e l) z))
+            (λ i. let f = mid-free x l z (i .0) in inr (f .0, i .1 ∙ ap code (f .1)))
+            (each-then x l z)
+
+        frozen′ : (x : ℕ) → x < n → 0 < plane n 1 a x → frozenOf n c x ≡ (marked (sa .frozen) x || (eqb (num a x) 0 && eqb (num c x) 1))
+        frozen′ x l z =
+            let i = label-mid x l in
+            let fc : frozenOf n c x ≡ (marked (stateOf n b .frozen) x || (eqb (num b x) 0 && eqb (num c x) 1)) = rw i at (v .judging .frozen x (rw e l) (rw i z)) in
+            let fb : marked (stateOf n b .frozen) x ≡ (marked (sa .frozen) x || (eqb (num a x) 0 && eqb (num b x) 1)) = frozen-is n b x l ∙ u .judging .frozen x (rw e l) z in
+            elim (ℕ-discrete (num b x) 0) [
+              | yes o ↦ (let na = mid-free x l z o .0 in fc ∙ rw (fb, o, na) (join-none (marked (sa .frozen) x) (eqb (num c x) 1)))
+              | no o ↦ (let j : num c x ≡ num b x = ⊎-elim (λ q. q) (λ q. absurd (o (q .0))) (each-then x l z) in
+                  fc ∙ sym (none-more (marked (stateOf n b .frozen) x) (eqb (num b x) 0 && eqb (num c x) 1) (rw (ne-eqb (num b x) 0 o))) ∙ fb
+                  ∙ ap (λ (y : ℕ). marked (sa .frozen) x || (eqb (num a x) 0 && eqb y 1)) (sym j))
+            ]
+
+        was : (x t : ℕ) → x < n → plane n 1 a x ≡ suc t → plane n 6 b t ≡ 0 → plane n 6 a t ≡ 0
+        was x t l y z =
+            let k1 : plane n 1 a x - 1 ≡ t = omega arith in
+            sym (ap (plane n 6 a) k1) ∙ mid-free x l (omega arith) (ap (plane n 6 b) k1 ∙ z) .0
+
+        stays : (x t : ℕ) → x < n → plane n 1 a x ≡ suc t → (plane n 6 b t ≡ 0 → ⊥) → plane n 6 c t ≡ plane n 6 b t
+        stays x t l y z =
+            let k1 : plane n 1 a x - 1 ≡ t = omega arith in
+            let nb : num b x ≡ plane n 6 b t = ap (plane n 6 b) k1 in
+            sym (ap (plane n 6 c) k1) ∙ ⊎-elim (λ i. i) (λ i. absurd (z (sym nb ∙ i .0))) (each-then x l (omega arith)) ∙ nb
+
+        numbered′ : (x t : ℕ) → x < n → plane n 1 a x ≡ suc t → first t ⊎ second t → plane n 6 a t ≡ 0 → plane n 6 c t ≡ code (fate (fates rule sa) x)
+        numbered′ x t l y z f =
+            let k1 : plane n 1 a x - 1 ≡ t = omega arith in
+            let some : 0 < plane n 1 a x = omega arith in
+            let nc : num c x ≡ plane n 6 c t = ap (plane n 6 c) k1 in
+            let nb : num b x ≡ plane n 6 b t = ap (plane n 6 b) k1 in
+            let na : num a x ≡ 0 = ap (plane n 6 a) k1 ∙ f in
+            elim (ℕ-discrete (num b x) 0) [
+              | yes o ↦ ⊎-elim
+                  (λ i. ⊎-elim (λ j. sym nc ∙ j ∙ nb ∙ u .numbered x t l y i f) (λ j. sym nc ∙ j .1 ∙ ap code (mid-free x l some o .1)) (each-then x l some))
+                  (λ i. v .numbered x t l (label-mid x l ∙ y) i (sym nb ∙ o) ∙ ap code (mid-free x l some o .1))
+                  z
+              | no o ↦ (let j : num c x ≡ num b x = ⊎-elim (λ q. q) (λ q. absurd (o (q .0))) (each-then x l some) in
+                  ⊎-elim (λ q. absurd (o (q ∙ na))) (λ q. sym nc ∙ j ∙ q .1) (u .judging .each x (rw e l) some))
+            ]
+
+  -- ---- the small groups that are named
+
+  -- none is
+  pub met-none : {near : ℕ → Type 0} → ((q : ℕ) → q < n → near q → ⊥) → Met rule grid k (Small n a near) a a from from
+  met-none f = met-fewer (λ l z. absurd (f (z .place) (z .inside) (z .named))) met-start
+
+  -- first these are judged, and then those
+  pub met-more : {first second near : ℕ → Type 0} {mid end : ℕ} {b c : List ℕ} → ((q : ℕ) → q < n → near q → first q ⊎ second q) →
+      Met rule grid k (Small n a first) a b from mid → Met rule grid k (Small n b second) b c mid end → Met rule grid k (Small n a near) a c from end
+  met-more f u v =
+      met-fewer (λ l z. ⊎-elim (λ y. inl (renamed z y)) (λ y. inr (record {
+        place = z .place;
+        named = y;
+        inside = z .inside;
+        little = u .large (z .place) (z .inside) ∙ z .little;
+        label = u .same 1 (z .place) (omega arith) (z .inside) ∙ z .label;
+      })) (f (z .place) (z .inside) (z .named)))
+      (met-trans u v)
+
+-- ---- the cell that a step finds
+
+-- a small group that the step names has the label that was read
+named-label : {n l : ℕ} {work : List ℕ} {o : Option ℕ} → Small n work (λ q. o ≡ some q) l → smallLabel n work o ≡ suc l
+unfolding smallLabel
+named-label z = rw (z .named, z .little) (z .label)
+
+-- the label is that of a group
+pub label-group : {grid : Grid} {work : List ℕ} → GroupedSheet grid work → (o : Option ℕ) → ((q : ℕ) → o ≡ some q → q < areaOf grid) → (at : ℕ) → smallLabel (areaOf grid) work o ≡ suc at → Group (areaOf grid) work at
+unfolding smallLabel
+label-group sheet none inside at e = let z : _≡_ {A = ℕ} 0 (suc at) = e in absurd (omega arith)
+label-group {grid} {work} sheet (some q) inside at e =
+    case (largeOf (areaOf grid) work q)
+    (λ y. let z : 0 ≡ suc at = rw y at e in absurd (omega arith))
+    (λ y. sheet .groups q at (inside q refl) (rw y at e))
+
+module _ {rule : Rule} {grid : Grid} {k end : ℕ} {a : List ℕ} (st : Stage rule grid k end a) (o : Option ℕ) where
+  -- there is none: nothing is judged
+  pub met-unlabelled : smallLabel (areaOf grid) a o ≡ 0 → Met rule grid k (Small (areaOf grid) a (λ q. o ≡ some q)) a a end end
+  met-unlabelled e = met-fewer (λ l z. absurd (omega (arith, named-label z))) (met-start st)
+
+  -- its group is judged
+  pub met-labelled : {at r : ℕ} {b : List ℕ} → smallLabel (areaOf grid) a o ≡ suc at → Group (areaOf grid) a at → Noted rule (areaOf grid) at end a b r → Met rule grid k (Small (areaOf grid) a (λ q. o ≡ some q)) a b end r
+  met-labelled e g u = met-fewer (λ l z. inr (omega (arith, named-label z))) (met-step st (met-start st) g u)

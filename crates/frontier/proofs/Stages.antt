@@ -1,5 +1,5 @@
 -- Judging a group leaves the planes as the next step needs them. Assumes nothing.
-use Prim.Native.Nat.{ℕ, suc, _+_, _-_, _*_, _≤_, _<_}
+use Prim.Native.Nat.{ℕ, suc, _+_, _-_, _≤_, _<_}
 use mathlib.Core.Path.{_≡_, sym, ap, _∙_}
 use mathlib.Core.Logic.{inl, inr, ⊎-elim}
 use mathlib.Core.Bool.{true, false, not, _&&_}
@@ -14,8 +14,10 @@ use Rattle.base.proofs.Counting.{case, clash, both, left, right, not-true, not-
 use Rattle.rules.specs.Regions.{opaque}
 use Rattle.rules.specs.Pass.{Rule, marked, isSmall, small, large}
 use Rattle.rules.proofs.Roots.{opaque-below}
+use Rattle.grid.specs.declared.Grid.{Grid}
 use Rattle.grid.specs.Planes.{plane, cellsOf, endOf}
 use Rattle.grid.proofs.Planes.{cells-kept, cells-size}
+use Rattle.verdicts.specs.Steps.{areaOf}
 use Rattle.verdicts.specs.Judging.{stateOf, largeOf, Sound}
 use Rattle.verdicts.specs.Groups.{Group, GroupedSheet}
 use Rattle.frontier.specs.Judging.{Noted, idle, Stage}
@@ -26,10 +28,6 @@ pub frozen-is : (n : ℕ) (work : List ℕ) (x : ℕ) → x < n → marked (stat
 unfolding stateOf marked
 frozen-is n work x l = table-at n (λ p. not (eqb (plane n 4 work p) 0)) false x l
 
-pub big-zero : (n : ℕ) (work : List ℕ) (q : ℕ) → largeOf n work q ≡ false → plane n 5 work q ≡ 0
-unfolding largeOf
-big-zero n work q e = elim (ℕ-discrete (plane n 5 work q) 0) [ yes y ↦ y | no z ↦ clash (rw (ne-eqb (plane n 5 work q) 0 z)) e ]
-
 pub big-some : (n : ℕ) (work : List ℕ) (q : ℕ) → (plane n 5 work q ≡ 0 → ⊥) → largeOf n work q ≡ true
 unfolding largeOf
 big-some n work q z = rw (ne-eqb (plane n 5 work q) 0 z)
@@ -38,9 +36,9 @@ pub zero-big : (n : ℕ) (work : List ℕ) (q : ℕ) → plane n 5 work q ≡ 0 
 unfolding largeOf
 zero-big n work q e = rw e
 
-module _ (rule : Rule) (h w steps k at end : ℕ) (a : List ℕ) (st : Stage rule h w steps k end a) (g : Group (h * w) a at) where
+module _ {rule : Rule} {grid : Grid} {k at end : ℕ} {a : List ℕ} (st : Stage rule grid k end a) (g : Group (areaOf grid) a at) where
   abbrev n : ℕ
-  n = h * w
+  n = areaOf grid
 
   abbrev lead : ℕ
   lead = plane n 2 a (endOf n a at)
@@ -62,7 +60,7 @@ module _ (rule : Rule) (h w steps k at end : ℕ) (a : List ℕ) (st : Stage rul
     (λ z y. let c = count-some n (idle n a) lead (lead-at .0) (idle-lead z y) in omega (arith, st .room)),
   )
 
-  module _ (b : List ℕ) (r : ℕ) (u : Noted rule n at end a b r) where
+  module _ {b : List ℕ} {r : ℕ} (u : Noted rule n at end a b r) where
     same-cells : cellsOf n b ≡ cellsOf n a
     same-cells = cells-kept n b a (λ p l. u .same 0 p (omega arith) l)
 
@@ -72,7 +70,7 @@ module _ (rule : Rule) (h w steps k at end : ℕ) (a : List ℕ) (st : Stage rul
     alike : Alike n a b
     alike = record { label = label-same; order = λ q l. u .same 2 q (omega arith) l; ends = λ q l. u .same 3 q (omega arith) l }
 
-    sheet-noted : GroupedSheet h w steps b
+    sheet-noted : GroupedSheet grid b
     sheet-noted =
         let d = st .sheet in
         record {
@@ -193,8 +191,9 @@ module _ (rule : Rule) (h w steps k at end : ℕ) (a : List ℕ) (st : Stage rul
         ]
 
     -- the next step may follow
-    pub stage-noted : Stage rule h w steps k r b
+    pub stage-noted : Stage rule grid k r b
     stage-noted = record {
+      ruled = st .ruled;
       sheet = sheet-noted;
       known = record { few = st .known .few; below = λ q l. rw (u .same 0 q (omega arith) l) (st .known .below q l) };
       sound = sound-noted;

@@ -1,17 +1,21 @@
 -- Judging in a pass, on the planes of the work area, region after region by the state at its start. Definitions only. Assumes nothing.
 -- A number by label tells what became of a region: 0 nothing, 1 frozen, c + 2 repainted into c.
-use Prim.Native.Nat.{ℕ, suc, _+_, _-_, _*_, _≤_, _<_}
+use Prim.Native.Nat.{ℕ, suc, _+_, _-_, _≤_, _<_}
 use mathlib.Core.Path.{_≡_}
 use mathlib.Core.Logic.{_⊎_}
-use mathlib.Core.Bool.{Bool, true, false, not, _&&_, _||_}
+use mathlib.Core.Bool.{Bool, true, false, not, _&&_, _||_, cond}
 use mathlib.Core.List.{List}
+use mathlib.Core.Option.{Option, none, some}
 use lib.Dec.{eqb, ltb}
 use lib.ListN.{length}
 use Rattle.base.specs.Places.{count}
+use Rattle.rules.specs.Regions.{Symmetric}
 use Rattle.rules.specs.Pass.{Rule, State, marked, large, fates, fate}
+use Rattle.grid.specs.declared.Grid.{Grid}
 use Rattle.grid.specs.Planes.{plane, endOf}
+use Rattle.verdicts.specs.Steps.{areaOf, adjoins}
 use Rattle.verdicts.specs.Groups.{GroupedSheet}
-use Rattle.verdicts.specs.Judging.{stateOf, code, Indexed, largeOf, Sound}
+use Rattle.verdicts.specs.Judging.{stateOf, code, Indexed, largeOf, Unmarked, Sound}
 
 -- the places of a group hold v in plane j, and nothing else is changed
 pub record RegionSet (n at j v : ℕ) (a b : List ℕ) : Type 0 where
@@ -40,13 +44,20 @@ pub record Noted (rule : Rule) (n at end : ℕ) (a b : List ℕ) (r : ℕ) : Typ
 unfoldable pub idle : ℕ → List ℕ → ℕ → Bool
 idle n work x = ltb 0 (plane n 1 work x) && not (largeOf n work x) && ltb (plane n 6 work (plane n 1 work x - 1)) 2
 
+-- the rule is one for the grid: its places and its neighbours are the grid's, and neighbours are so both ways round
+pub record OnGrid (rule : Rule) (grid : Grid) : Type 0 where
+  pub size : rule .places ≡ areaOf grid
+  pub ways : (p q : ℕ) → rule .adj p q ≡ adjoins grid p q
+  pub symm : Symmetric (rule .adj)
+
 -- The planes as each step of judging finds and leaves them, with the log up to `end`: no place has the mark of a group without a number, and the log has room for every idle place
-pub record Stage (rule : Rule) (h w steps k end : ℕ) (work : List ℕ) : Type 0 where
-  pub sheet : GroupedSheet h w steps work
-  pub known : Indexed (h * w) k work
-  pub sound : Sound rule (h * w) work
-  pub unmarked : (at : ℕ) → at < h * w → plane (h * w) 6 work at ≡ 0 → (q : ℕ) → q < h * w → plane (h * w) 5 work q ≡ at + 2 → ⊥
-  pub room : end + count (h * w) (idle (h * w) work) ≤ h * w
+pub record Stage (rule : Rule) (grid : Grid) (k end : ℕ) (work : List ℕ) : Type 0 where
+  pub ruled : OnGrid rule grid
+  pub sheet : GroupedSheet grid work
+  pub known : Indexed (areaOf grid) k work
+  pub sound : Sound rule (areaOf grid) work
+  pub unmarked : (at : ℕ) → at < areaOf grid → Unmarked (areaOf grid) work at
+  pub room : end + count (areaOf grid) (idle (areaOf grid) work) ≤ areaOf grid
 
 -- the number of the group of x
 abbrev pub numberOf : (ℕ → ℕ) → (ℕ → ℕ) → ℕ → ℕ
@@ -82,14 +93,19 @@ pub record Filed (n : ℕ) (a b : List ℕ) (from end : ℕ) : Type 0 where
   pub all : (l : ℕ) → Chosen n a b l → (i : ℕ) × (from ≤ i) × (i < end) × (plane n 7 b i ≡ l)
 
 -- Since the work area was a, with the log up to `from`, groups were judged, among them those that `met` names; the log ends at `end`
-pub record Met (rule : Rule) (h w steps k : ℕ) (met : ℕ → Type 0) (a b : List ℕ) (from end : ℕ) : Type 0 where
+pub record Met (rule : Rule) (grid : Grid) (k : ℕ) (met : ℕ → Type 0) (a b : List ℕ) (from end : ℕ) : Type 0 where
   pub len : length b ≡ length a
-  pub stage : Stage rule h w steps k end b
-  pub same : (j q : ℕ) → j < 4 → q < h * w → plane (h * w) j b q ≡ plane (h * w) j a q
-  pub large : (q : ℕ) → q < h * w → largeOf (h * w) b q ≡ largeOf (h * w) a q
-  pub judging : Judging rule (stateOf (h * w) a) (plane (h * w) 1 a) (plane (h * w) 6 a) (plane (h * w) 6 b) (frozenOf (h * w) b)
-  pub numbered : (x at : ℕ) → x < h * w → plane (h * w) 1 a x ≡ suc at → met at → plane (h * w) 6 a at ≡ 0 → plane (h * w) 6 b at ≡ code (fate (fates rule (stateOf (h * w) a)) x)
-  pub log : Filed (h * w) a b from end
+  pub stage : Stage rule grid k end b
+  pub same : (j q : ℕ) → j < 4 → q < areaOf grid → plane (areaOf grid) j b q ≡ plane (areaOf grid) j a q
+  pub large : (q : ℕ) → q < areaOf grid → largeOf (areaOf grid) b q ≡ largeOf (areaOf grid) a q
+  pub judging : Judging rule (stateOf (areaOf grid) a) (plane (areaOf grid) 1 a) (plane (areaOf grid) 6 a) (plane (areaOf grid) 6 b) (frozenOf (areaOf grid) b)
+  pub numbered : (x at : ℕ) → x < areaOf grid → plane (areaOf grid) 1 a x ≡ suc at → met at → plane (areaOf grid) 6 a at ≡ 0 → plane (areaOf grid) 6 b at ≡ code (fate (fates rule (stateOf (areaOf grid) a)) x)
+  pub log : Filed (areaOf grid) a b from end
+
+-- the label of the cell that a step finds, if that is small; else 0
+unfoldable pub smallLabel : ℕ → List ℕ → Option ℕ → ℕ
+smallLabel n work none = 0
+smallLabel n work (some q) = cond (largeOf n work q) 0 (plane n 1 work q)
 
 -- l + 1 is the label of a place that `at` names and that is not large
 pub record Small (n : ℕ) (work : List ℕ) (at : ℕ → Type 0) (l : ℕ) : Type 0 where
@@ -98,3 +114,11 @@ pub record Small (n : ℕ) (work : List ℕ) (at : ℕ → Type 0) (l : ℕ) : T
   pub inside : place < n
   pub little : largeOf n work place ≡ false
   pub label : plane n 1 work place ≡ suc l
+
+-- q is a neighbour of a place with the label at + 1
+abbrev pub Around : Grid → List ℕ → ℕ → ℕ → Type 0
+Around grid work at q = (p : ℕ) × (p < areaOf grid) × (plane (areaOf grid) 1 work p ≡ suc at) × (adjoins grid p q ≡ true)
+
+-- q is a neighbour of a place of a group that the log names from `from` on and before `to`
+abbrev pub AroundLogged : Grid → List ℕ → ℕ → ℕ → ℕ → Type 0
+AroundLogged grid work from to q = (i : ℕ) × (from ≤ i) × (i < to) × Around grid work (plane (areaOf grid) 7 work i) q

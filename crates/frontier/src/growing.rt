@@ -1,21 +1,24 @@
 // What becomes large: groups of at least `limit` places at the start, then repainted ones, and those of the index beside them.
 use crate::regions::set_region;
+use grid::Grid;
+use grid::Move;
 use grid::OFFSETS8;
 use grid::Step;
-use grid::on_border;
+use grid::on_edge;
 use grid::reached;
 use verdicts::region_size;
 use verdicts::region_span;
+use verdicts::step_count;
 ghost use mathlib.Core.Path.{_≡_};
 ghost use mathlib.Core.Bool.{true, false};
 ghost use mathlib.Core.Option.{some};
-ghost use Prim.Native.Nat.{ℕ, suc, _+_, _-_, _*_, _/_, _%_, _≤_, _<_};
+ghost use Prim.Native.Nat.{ℕ, suc, _+_, _-_, _*_, _≤_, _<_};
 ghost use lib.ListN.{length};
-ghost use Rattle.rules.specs.Grid.{eight, stepTo};
-ghost use Rattle.grid.specs.Steps.{hood, Single, Inner};
+ghost use Rattle.rules.specs.Grid.{eight};
 ghost use Rattle.grid.specs.Planes.{plane, endOf};
+ghost use Rattle.verdicts.specs.Steps.{areaOf, landing, OneStep};
 ghost use Rattle.verdicts.specs.Groups.{Group};
-ghost use Rattle.frontier.specs.Growing.{Listed, Beside, Enlarged, Repainted, Growth, Gained, Decided, Grew};
+ghost use Rattle.frontier.specs.Growing.{Listed, Matches, MatchesAround, MatchesLogged, Enlarged, Repainted, Growth, Gained, Decided, Grew};
 
 // Of the first `count` groups those of at least `limit` places are large.
 pub fn mark_large(work: &mut [u32], n: usize, count: usize, limit: u32)
@@ -59,25 +62,13 @@ pub fn repaint_all(work: &mut [u32], n: usize, from: usize, to: usize)
     }
 }
 
-// The group that a step from p finds becomes large, if it is small and of that paint; it is logged at `end`. The log's end then.
-fn absorb(
-    work: &mut [u32],
-    h: usize,
-    w: usize,
-    steps: usize,
-    p: usize,
-    dy: i32,
-    dx: i32,
-    border: bool,
-    paint: u32,
-    end: usize,
-) -> usize
-    requires { ⌜ Growth h w steps end (now work) × (p < h * w) ⌝ }
-    requires { ⌜ Single dy × Single dx × (border ≡ false → Inner h w p) ⌝ }
-    ensures { λ r. ⌜ Gained h w steps (λ q. (stepTo h w (p / w) (p % w) dy dx ≡ some q) × (plane (h * w) 0 (now (work .entry)) q ≡ paint)) (now (work .entry)) (now (work .exit)) end r ⌝ }
+// The group that a step finds becomes large, if it is small and of that paint; it is logged at `end`. The log's end then.
+fn absorb(work: &mut [u32], grid: Grid, step: Move, paint: u32, end: usize) -> usize
+    requires { ⌜ Growth grid end (now work) × OneStep grid step ⌝ }
+    ensures { λ r. ⌜ Gained grid (λ q. (landing grid step ≡ some q) × (plane (areaOf grid) 0 (now (work .entry)) q ≡ paint)) (now (work .entry)) (now (work .exit)) end r ⌝ }
 {
-    let n = h * w;
-    let Step::Cell(q) = reached(p, dy, dx, border, h, w) else {
+    let n = grid.h * grid.w;
+    let Step::Cell(q) = reached(step.p, step.dy, step.dx, step.border, grid.h, grid.w) else {
         return end;
     };
     let own = work[q];
@@ -151,75 +142,67 @@ fn small_near(work: &[u32], n: usize, w: usize, p: usize, paint: u32) -> bool
 }
 
 // The groups of its paint beside the place p become large. Whether there may be one is asked first, since the steps cost more.
-fn absorb_beside(work: &mut [u32], h: usize, w: usize, steps: usize, p: usize, from: usize) -> usize
-    requires { ⌜ Growth h w steps from (now work) × (p < h * w) ⌝ }
-    ensures { λ r. ⌜ Gained h w steps (λ q. (hood steps w p q ≡ true) × (plane (h * w) 0 (now (work .entry)) q ≡ plane (h * w) 0 (now (work .entry)) p)) (now (work .entry)) (now (work .exit)) from r ⌝ }
+fn absorb_beside(work: &mut [u32], grid: Grid, p: usize, from: usize) -> usize
+    requires { ⌜ Growth grid from (now work) × (p < areaOf grid) ⌝ }
+    ensures { λ r. ⌜ Gained grid (Matches grid (now (work .entry)) p) (now (work .entry)) (now (work .exit)) from r ⌝ }
 {
-    let n = h * w;
+    let n = grid.h * grid.w;
     let paint = work[p];
-    if !small_near(work, n, w, p, paint) {
+    if !small_near(work, n, grid.w, p, paint) {
         return from;
     }
-    let border = on_border(p, h, w);
+    let border = on_edge(p, grid.h, grid.w);
     let offsets = OFFSETS8;
+    let steps = step_count(grid);
     let mut end = from;
-    for s in 0..steps {
+    for s in 0..8 {
+        if s == steps {
+            return end;
+        }
         let o = offsets[s];
-        end = absorb(work, h, w, steps, p, o[0], o[1], border, paint, end);
+        let dy = o[0];
+        let dx = o[1];
+        end = absorb(work, grid, Move { p, dy, dx, border }, paint, end);
     }
     end
 }
 
 // The groups of its paint beside the group with the label at + 1 become large.
-fn absorb_around(
-    work: &mut [u32],
-    h: usize,
-    w: usize,
-    steps: usize,
-    at: usize,
-    from: usize,
-) -> usize
-    requires { ⌜ Growth h w steps from (now work) × Group (h * w) (now work) at ⌝ }
-    ensures { λ r. ⌜ Gained h w steps (λ q. (p : ℕ) × (p < h * w) × (plane (h * w) 1 (now (work .entry)) p ≡ suc at) × (hood steps w p q ≡ true) × (plane (h * w) 0 (now (work .entry)) q ≡ plane (h * w) 0 (now (work .entry)) p)) (now (work .entry)) (now (work .exit)) from r ⌝ }
+fn absorb_around(work: &mut [u32], grid: Grid, at: usize, from: usize) -> usize
+    requires { ⌜ Growth grid from (now work) × Group (areaOf grid) (now work) at ⌝ }
+    ensures { λ r. ⌜ Gained grid (MatchesAround grid (now (work .entry)) at) (now (work .entry)) (now (work .exit)) from r ⌝ }
 {
-    let n = h * w;
+    let n = grid.h * grid.w;
     let span = region_span(work, n, at);
     let mut end = from;
     for i in span.from..span.to {
         let p = work[2 * n + i] as usize;
-        end = absorb_beside(work, h, w, steps, p, end);
+        end = absorb_beside(work, grid, p, end);
     }
     end
 }
 
 // The groups of its paint beside each of the groups of the log from `from` on and before `to` become large, and are logged from `to` on. The log's end then.
-pub fn absorb_all(
-    work: &mut [u32],
-    h: usize,
-    w: usize,
-    steps: usize,
-    from: usize,
-    to: usize,
-) -> usize
-    requires { ⌜ Growth h w steps to (now work) ⌝ }
-    requires { ⌜ ((i : ℕ) → from ≤ i → i < to → Group (h * w) (now work) (plane (h * w) 7 (now work) i)) ⌝ }
-    ensures { λ r. ⌜ Gained h w steps (Beside h w steps (now (work .entry)) from to) (now (work .entry)) (now (work .exit)) to r ⌝ }
+pub fn absorb_all(work: &mut [u32], grid: Grid, from: usize, to: usize) -> usize
+    requires { ⌜ Growth grid to (now work) ⌝ }
+    requires { ⌜ ((i : ℕ) → from ≤ i → i < to → Group (areaOf grid) (now work) (plane (areaOf grid) 7 (now work) i)) ⌝ }
+    ensures { λ r. ⌜ Gained grid (MatchesLogged grid (now (work .entry)) from to) (now (work .entry)) (now (work .exit)) to r ⌝ }
 {
-    let n = h * w;
+    let n = grid.h * grid.w;
     let mut last = to;
     for i in from..to {
         let at = work[7 * n + i] as usize;
-        last = absorb_around(work, h, w, steps, at, last);
+        last = absorb_around(work, grid, at, last);
     }
     last
 }
 
 // What is decided is done: the groups of the log from `from` on and before `mid` are repainted, and those of their paint beside them become large. The log's end then.
-pub fn grow(work: &mut [u32], h: usize, w: usize, steps: usize, from: usize, mid: usize) -> usize
-    requires { ⌜ Decided h w steps from mid (now work) ⌝ }
-    ensures { λ r. ⌜ Grew h w steps from mid (now (work .entry)) (now (work .exit)) r ⌝ }
+pub fn grow(work: &mut [u32], grid: Grid, from: usize, mid: usize) -> usize
+    requires { ⌜ Decided grid from mid (now work) ⌝ }
+    ensures { λ r. ⌜ Grew grid from mid (now (work .entry)) (now (work .exit)) r ⌝ }
 {
-    let n = h * w;
+    let n = grid.h * grid.w;
     repaint_all(work, n, from, mid);
-    absorb_all(work, h, w, steps, from, mid)
+    absorb_all(work, grid, from, mid)
 }

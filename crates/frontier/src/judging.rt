@@ -1,45 +1,40 @@
 // Which regions are judged in a pass, and what follows for them.
 use crate::regions::set_region;
+use grid::Grid;
+use grid::Move;
 use grid::OFFSETS8;
 use grid::Step;
-use grid::on_border;
+use grid::on_edge;
 use grid::reached;
+use verdicts::Criteria;
 use verdicts::region_span;
+use verdicts::step_count;
 use verdicts::verdict;
 ghost use mathlib.Core.Path.{_≡_};
-ghost use mathlib.Core.Bool.{true, false};
-ghost use mathlib.Core.Option.{some};
-ghost use Prim.Native.Nat.{ℕ, suc, _+_, _*_, _/_, _%_, _≤_, _<_};
+ghost use mathlib.Core.Bool.{true};
+ghost use Prim.Native.Nat.{ℕ, _≤_, _<_};
 ghost use lib.ListN.{length};
-ghost use Rattle.rules.specs.Grid.{stepTo};
-ghost use Rattle.grid.specs.Steps.{hood, Single, Inner};
-ghost use Rattle.grid.specs.Planes.{plane, endOf};
+ghost use Rattle.grid.specs.Planes.{plane};
+ghost use Rattle.verdicts.specs.Steps.{areaOf, adjoins, landing, OneStep};
 ghost use Rattle.verdicts.specs.Groups.{Group, GroupedSheet};
-ghost use Rattle.verdicts.specs.Judging.{ruleOf, Indexed, Sound};
-ghost use Rattle.frontier.specs.Judging.{Noted, Stage, Met, Small};
+ghost use Rattle.verdicts.specs.Judging.{ruleOf};
+ghost use Rattle.frontier.specs.Judging.{smallLabel, Noted, Stage, Met, Small, Around, AroundLogged};
 
 // The region with the label at + 1 is decided, if it can be: frozen at once, or logged at `end` to be repainted. The log's end then.
 pub fn judge(
     work: &mut [u32],
-    h: usize,
-    w: usize,
-    steps: usize,
+    grid: Grid,
     palette: &[f64],
-    k: usize,
-    limit: u32,
-    max_delta: f64,
+    by: Criteria,
     at: usize,
     end: usize,
 ) -> usize
-    requires { ⌜ GroupedSheet h w steps (now work) × Group (h * w) (now work) at ⌝ }
-    requires { ⌜ (end ≤ h * w) × (plane (h * w) 6 (now work) at ≡ 0 → plane (h * w) 5 (now work) (plane (h * w) 2 (now work) (endOf (h * w) (now work) at)) ≡ 0 → end < h * w) ⌝ }
-    requires { ⌜ Indexed (h * w) k (now work) × (length (now palette) ≡ 768) ⌝ }
-    requires { ⌜ Sound (ruleOf h w steps limit (now palette) «max_delta») (h * w) (now work) ⌝ }
-    requires { ⌜ (plane (h * w) 6 (now work) at ≡ 0 → (q : ℕ) → q < h * w → plane (h * w) 5 (now work) q ≡ at + 2 → ⊥) ⌝ }
-    ensures { λ r. ⌜ Noted (ruleOf h w steps limit (now (palette .entry)) «max_delta») (h * w) at end (now (work .entry)) (now (work .exit)) r ⌝ }
+    requires { ⌜ Stage (ruleOf grid by (now palette)) grid (by .k) end (now work) × (length (now palette) ≡ 768) ⌝ }
+    requires { ⌜ Group (areaOf grid) (now work) at ⌝ }
+    ensures { λ r. ⌜ Noted (ruleOf grid by (now (palette .entry))) (areaOf grid) at end (now (work .entry)) (now (work .exit)) r ⌝ }
 {
-    let n = h * w;
-    let v = verdict(work, h, w, steps, palette, k, limit, max_delta, at);
+    let n = grid.h * grid.w;
+    let v = verdict(work, grid, palette, by, at);
     if v == 0 {
         return end;
     }
@@ -53,101 +48,63 @@ pub fn judge(
 }
 
 // The first `count` groups are judged. The log's end then.
-pub fn judge_all(
-    work: &mut [u32],
-    h: usize,
-    w: usize,
-    steps: usize,
-    palette: &[f64],
-    k: usize,
-    limit: u32,
-    max_delta: f64,
-    count: usize,
-) -> usize
-    requires { ⌜ Stage (ruleOf h w steps limit (now palette) «max_delta») h w steps k 0 (now work) × (length (now palette) ≡ 768) ⌝ }
-    requires { ⌜ ((at : ℕ) → at < count → Group (h * w) (now work) at) ⌝ }
-    ensures { λ r. ⌜ Met (ruleOf h w steps limit (now (palette .entry)) «max_delta») h w steps k (λ l. l < count) (now (work .entry)) (now (work .exit)) 0 r ⌝ }
+pub fn judge_all(work: &mut [u32], grid: Grid, palette: &[f64], by: Criteria, count: usize) -> usize
+    requires { ⌜ Stage (ruleOf grid by (now palette)) grid (by .k) 0 (now work) × (length (now palette) ≡ 768) ⌝ }
+    requires { ⌜ ((at : ℕ) → at < count → Group (areaOf grid) (now work) at) ⌝ }
+    ensures { λ r. ⌜ Met (ruleOf grid by (now (palette .entry))) grid (by .k) (λ l. l < count) (now (work .entry)) (now (work .exit)) 0 r ⌝ }
 {
     let mut end = 0;
     for at in 0..count {
-        end = judge(work, h, w, steps, palette, k, limit, max_delta, at, end);
+        end = judge(work, grid, palette, by, at, end);
     }
     end
 }
 
-// The group of the cell that a step from p finds is judged, if it is small.
-fn judge_step(
-    work: &mut [u32],
-    h: usize,
-    w: usize,
-    steps: usize,
-    palette: &[f64],
-    k: usize,
-    limit: u32,
-    max_delta: f64,
-    p: usize,
-    dy: i32,
-    dx: i32,
-    border: bool,
-    end: usize,
-) -> usize
-    requires { ⌜ Stage (ruleOf h w steps limit (now palette) «max_delta») h w steps k end (now work) × (length (now palette) ≡ 768) ⌝ }
-    requires { ⌜ (p < h * w) × Single dy × Single dx × (border ≡ false → Inner h w p) ⌝ }
-    ensures { λ r. ⌜ Met (ruleOf h w steps limit (now (palette .entry)) «max_delta») h w steps k (Small (h * w) (now (work .entry)) (λ q. stepTo h w (p / w) (p % w) dy dx ≡ some q)) (now (work .entry)) (now (work .exit)) end r ⌝ }
+// The label of the cell that a step finds, if that is small; else 0.
+fn small_label(work: &[u32], grid: Grid, step: Move) -> usize
+    requires { ⌜ GroupedSheet grid (now work) × OneStep grid step ⌝ }
+    ensures { λ r. ⌜ r ≡ smallLabel (areaOf grid) (now (work .entry)) (landing grid step) ⌝ }
 {
-    let Step::Cell(q) = reached(p, dy, dx, border, h, w) else {
-        return end;
+    let Step::Cell(q) = reached(step.p, step.dy, step.dx, step.border, grid.h, grid.w) else {
+        return 0;
     };
-    let n = h * w;
+    let n = grid.h * grid.w;
     let last = work[5 * n + q];
     if last != 0 {
-        return end;
+        return 0;
     }
-    let label = work[n + q] as usize;
-    if label == 0 {
-        return end;
-    }
-    let at = label - 1;
-    judge(work, h, w, steps, palette, k, limit, max_delta, at, end)
+    work[n + q] as usize
 }
 
 // The groups beside the place p are judged, if they are small.
 fn judge_beside(
     work: &mut [u32],
-    h: usize,
-    w: usize,
-    steps: usize,
+    grid: Grid,
     palette: &[f64],
-    k: usize,
-    limit: u32,
-    max_delta: f64,
+    by: Criteria,
     p: usize,
     from: usize,
 ) -> usize
-    requires { ⌜ Stage (ruleOf h w steps limit (now palette) «max_delta») h w steps k from (now work) × (length (now palette) ≡ 768) ⌝ }
-    requires { ⌜ p < h * w ⌝ }
-    ensures { λ r. ⌜ Met (ruleOf h w steps limit (now (palette .entry)) «max_delta») h w steps k (Small (h * w) (now (work .entry)) (λ q. hood steps w p q ≡ true)) (now (work .entry)) (now (work .exit)) from r ⌝ }
+    requires { ⌜ Stage (ruleOf grid by (now palette)) grid (by .k) from (now work) × (length (now palette) ≡ 768) ⌝ }
+    requires { ⌜ p < areaOf grid ⌝ }
+    ensures { λ r. ⌜ Met (ruleOf grid by (now (palette .entry))) grid (by .k) (Small (areaOf grid) (now (work .entry)) (λ q. adjoins grid p q ≡ true)) (now (work .entry)) (now (work .exit)) from r ⌝ }
 {
-    let border = on_border(p, h, w);
+    let border = on_edge(p, grid.h, grid.w);
     let offsets = OFFSETS8;
+    let steps = step_count(grid);
     let mut end = from;
-    for s in 0..steps {
+    for s in 0..8 {
+        if s == steps {
+            return end;
+        }
         let o = offsets[s];
-        end = judge_step(
-            work,
-            h,
-            w,
-            steps,
-            palette,
-            k,
-            limit,
-            max_delta,
-            p,
-            o[0],
-            o[1],
-            border,
-            end,
-        );
+        let dy = o[0];
+        let dx = o[1];
+        let label = small_label(work, grid, Move { p, dy, dx, border });
+        if label != 0 {
+            let at = label - 1;
+            end = judge(work, grid, palette, by, at, end);
+        }
     }
     end
 }
@@ -155,26 +112,22 @@ fn judge_beside(
 // The groups beside the group with the label at + 1 are judged, if they are small.
 fn judge_around(
     work: &mut [u32],
-    h: usize,
-    w: usize,
-    steps: usize,
+    grid: Grid,
     palette: &[f64],
-    k: usize,
-    limit: u32,
-    max_delta: f64,
+    by: Criteria,
     at: usize,
     from: usize,
 ) -> usize
-    requires { ⌜ Stage (ruleOf h w steps limit (now palette) «max_delta») h w steps k from (now work) × (length (now palette) ≡ 768) ⌝ }
-    requires { ⌜ Group (h * w) (now work) at ⌝ }
-    ensures { λ r. ⌜ Met (ruleOf h w steps limit (now (palette .entry)) «max_delta») h w steps k (Small (h * w) (now (work .entry)) (λ q. (p : ℕ) × (p < h * w) × (plane (h * w) 1 (now (work .entry)) p ≡ suc at) × (hood steps w p q ≡ true))) (now (work .entry)) (now (work .exit)) from r ⌝ }
+    requires { ⌜ Stage (ruleOf grid by (now palette)) grid (by .k) from (now work) × (length (now palette) ≡ 768) ⌝ }
+    requires { ⌜ Group (areaOf grid) (now work) at ⌝ }
+    ensures { λ r. ⌜ Met (ruleOf grid by (now (palette .entry))) grid (by .k) (Small (areaOf grid) (now (work .entry)) (Around grid (now (work .entry)) at)) (now (work .entry)) (now (work .exit)) from r ⌝ }
 {
-    let n = h * w;
+    let n = grid.h * grid.w;
     let span = region_span(work, n, at);
     let mut end = from;
     for i in span.from..span.to {
         let p = work[2 * n + i] as usize;
-        end = judge_beside(work, h, w, steps, palette, k, limit, max_delta, p, end);
+        end = judge_beside(work, grid, palette, by, p, end);
     }
     end
 }
@@ -182,25 +135,21 @@ fn judge_around(
 // The groups beside those of the log from `begin` on and before `end` are judged, if they are small.
 pub fn judge_frontier(
     work: &mut [u32],
-    h: usize,
-    w: usize,
-    steps: usize,
+    grid: Grid,
     palette: &[f64],
-    k: usize,
-    limit: u32,
-    max_delta: f64,
+    by: Criteria,
     begin: usize,
     end: usize,
 ) -> usize
-    requires { ⌜ Stage (ruleOf h w steps limit (now palette) «max_delta») h w steps k end (now work) × (length (now palette) ≡ 768) ⌝ }
-    requires { ⌜ ((i : ℕ) → begin ≤ i → i < end → Group (h * w) (now work) (plane (h * w) 7 (now work) i)) ⌝ }
-    ensures { λ r. ⌜ Met (ruleOf h w steps limit (now (palette .entry)) «max_delta») h w steps k (Small (h * w) (now (work .entry)) (λ q. (i : ℕ) × (begin ≤ i) × (i < end) × (p : ℕ) × (p < h * w) × (plane (h * w) 1 (now (work .entry)) p ≡ suc (plane (h * w) 7 (now (work .entry)) i)) × (hood steps w p q ≡ true))) (now (work .entry)) (now (work .exit)) end r ⌝ }
+    requires { ⌜ Stage (ruleOf grid by (now palette)) grid (by .k) end (now work) × (length (now palette) ≡ 768) ⌝ }
+    requires { ⌜ ((i : ℕ) → begin ≤ i → i < end → Group (areaOf grid) (now work) (plane (areaOf grid) 7 (now work) i)) ⌝ }
+    ensures { λ r. ⌜ Met (ruleOf grid by (now (palette .entry))) grid (by .k) (Small (areaOf grid) (now (work .entry)) (AroundLogged grid (now (work .entry)) begin end)) (now (work .entry)) (now (work .exit)) end r ⌝ }
 {
-    let n = h * w;
+    let n = grid.h * grid.w;
     let mut mid = end;
     for i in begin..end {
         let at = work[7 * n + i] as usize;
-        mid = judge_around(work, h, w, steps, palette, k, limit, max_delta, at, mid);
+        mid = judge_around(work, grid, palette, by, at, mid);
     }
     mid
 }

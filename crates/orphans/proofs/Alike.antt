@@ -1,9 +1,8 @@
 -- Sheets that differ only in how their transparent cells are written are cleaned alike. Assumes nothing.
 use Prim.Native.Nat.{ℕ, zero, suc, _-_, _<_}
 use mathlib.Core.Path.{_≡_, refl, sym, ap, ap₂, fun-ext, _∙_, subst}
-use mathlib.Core.Bool.{Bool, true, false, not, _&&_, _||_}
+use mathlib.Core.Bool.{Bool, not, _&&_, _||_}
 use mathlib.Core.List.{List}
-use mathlib.Core.Option.{Option}
 use native.Mathlib.Decide.{decLt}
 use native.Mathlib.Omega.{arith}
 use lib.Dec.{eqb, ltb}
@@ -13,7 +12,8 @@ use lib.ListN.{getD, List·getD-eq-default}
 use Rattle.base.specs.Places.{table, any, count, greatest}
 use Rattle.base.proofs.Counting.{case, table-at, table-length}
 use Rattle.rules.specs.Regions.{at, index, held, roots, inside, first}
-use Rattle.rules.specs.Pass.{Rule, State, View, marked, size, few, isLarge, view, Verdict, stay, merge, freeze, votes, most, frequent, choose, target, top, voter, pending, decided, verdict, painted, freezes, fates, fate, applied, pass, moves, Cleaned, clean}
+use Rattle.rules.specs.Palette.{firstLeast}
+use Rattle.rules.specs.Pass.{Rule, State, View, marked, size, few, isLarge, view, Verdict, stay, merge, freeze, votes, most, frequent, target, top, voter, pending, verdict, painted, freezes, fates, fate, applied, pass, moves, Cleaned, clean}
 use Rattle.rules.proofs.Runs.{clean-go, clean-stop}
 use Rattle.grid.specs.Planes.{paintOf}
 use Rattle.grid.proofs.Planes.{same-opaque, same-roots}
@@ -31,7 +31,7 @@ paint-painted (freeze c d) y z e = e
 
 -- ---- one pass
 
-module _ (rule : Rule) (a b : List ℤ) (same : (p : ℕ) → paintOf (at a p) ≡ paintOf (at b p)) (ice : List Bool) where
+module _ (rule : Rule) (a b : List ℤ) (same : (p : ℕ) → paintOf (at a p) ≡ paintOf (at b p)) (frozenCells : List Bool) where
   abbrev n : ℕ
   n = rule .places
 
@@ -49,9 +49,9 @@ module _ (rule : Rule) (a b : List ℤ) (same : (p : ℕ) → paintOf (at a p) �
 
   -- a sheet with the roots and the large regions of b
   abbrev seen : List ℤ → View
-  seen c = record { cells = c; frozen = ice; root = roots n (rule .adj) b; large = table n (isLarge rule b (roots n (rule .adj) b)) }
+  seen c = record { cells = c; frozen = frozenCells; root = roots n (rule .adj) b; large = table n (isLarge rule b (roots n (rule .adj) b)) }
 
-  same-view : view rule (record { cells = a; frozen = ice }) ≡ seen a
+  same-view : view rule (record { cells = a; frozen = frozenCells }) ≡ seen a
   unfolding view
   same-view = rw (same-large, same-roots a b same n (rule .adj))
 
@@ -72,43 +72,37 @@ module _ (rule : Rule) (a b : List ℤ) (same : (p : ℕ) → paintOf (at a p) �
   unfolding frequent
   same-frequent voters c = ap₂ (λ (v : ℕ → ℕ) (m : ℕ). ltb 0 (v c) && eqb (v c) m) (same-votes voters) (same-most voters)
 
-  same-target : (own : ℕ) (voters : List Bool) (k : ℕ) → target rule a own voters k ≡ target rule b own voters k
-  unfolding target
-  same-target own voters zero = refl
-  same-target own voters (suc k) = ap₂ (λ (t : Bool) (o : Option ℕ). choose rule own t k o) (same-frequent voters k) (same-target own voters k)
-
   same-top : top rule a ≡ top rule b
   unfolding top
   same-top = ap₂ (λ (o : ℕ → Bool) (i : ℕ → ℕ). suc (greatest n o i)) (same-opaque a b same) same-index
+
+  same-target : (own : ℕ) (voters : List Bool) → target rule a own voters ≡ target rule b own voters
+  unfolding target
+  same-target own voters = ap₂ (λ (f : ℕ → Bool) (k : ℕ). firstLeast f (rule .dist own) k) (fun-ext (same-frequent voters)) same-top
 
   same-pending : (m : ℕ) → pending rule (seen a) m ≡ pending rule (seen b) m
   unfolding pending first inside
   same-pending m =
       ap₂ (λ (o : ℕ → Bool) (i : ℕ → ℕ). o m && eqb (held (seen b .root) m) m && not (marked (seen b .large) m) && rule .free (i m)
-      && not (any n (λ p. (o p && eqb (held (seen b .root) p) m) && marked ice p))) (same-opaque a b same) same-index
-
-  same-decided : (m : ℕ) (t : Bool) → decided rule (seen a) m t ≡ decided rule (seen b) m t
-  unfolding decided
-  same-decided m false = refl
-  same-decided m true =
-      let i : index (at a m) ≡ index (at b m) = ap (λ (f : ℕ → ℕ). f m) same-index in
-      rw (i, same-voter m, same-top, same-target (index (at b m)) (table n (voter rule (seen b) m)) (top rule b))
+      && not (any n (λ p. (o p && eqb (held (seen b .root) p) m) && marked frozenCells p))) (same-opaque a b same) same-index
 
   same-verdict : verdict rule (seen a) ≡ verdict rule (seen b)
   unfolding verdict
-  same-verdict = fun-ext (λ m. ap (decided rule (seen a) m) (same-pending m) ∙ same-decided m (pending rule (seen b) m))
+  same-verdict =
+      fun-ext (λ m. let i : index (at a m) ≡ index (at b m) = ap (λ (f : ℕ → ℕ). f m) same-index in
+      rw (same-pending m, i, same-voter m, same-target (index (at b m)) (table n (voter rule (seen b) m))))
 
-  pub same-fates : fates rule (record { cells = a; frozen = ice }) ≡ fates rule (record { cells = b; frozen = ice })
-  unfolding fates view
+  pub same-fates : fates rule (record { cells = a; frozen = frozenCells }) ≡ fates rule (record { cells = b; frozen = frozenCells })
+  unfolding fates fate view
   same-fates =
       ap (λ (v : View). table n (λ p. getD (table n (verdict rule v)) (held (v .root) p) stay)) same-view
       ∙ ap (λ (f : ℕ → Verdict). table n (λ p. getD (table n f) (held (seen b .root) p) stay)) same-verdict
 
   abbrev left : State
-  left = record { cells = a; frozen = ice }
+  left = record { cells = a; frozen = frozenCells }
 
   abbrev right : State
-  right = record { cells = b; frozen = ice }
+  right = record { cells = b; frozen = frozenCells }
 
   pub pass-alike : (p : ℕ) → paintOf (at (pass rule left .cells) p) ≡ paintOf (at (pass rule right .cells) p)
   unfolding pass applied at
@@ -122,9 +116,9 @@ module _ (rule : Rule) (a b : List ℤ) (same : (p : ℕ) → paintOf (at a p) �
       past : (f : ℕ → ℤ) → (p < n → ⊥) → getD (table n f) p (negsuc 0) ≡ negsuc 0
       past f m = List·getD-eq-default (table n f) (negsuc 0) (omega (arith, table-length n f))
 
-  pub pass-ice : pass rule left .frozen ≡ pass rule right .frozen
+  pub pass-frozenCells : pass rule left .frozen ≡ pass rule right .frozen
   unfolding pass applied
-  pass-ice = ap (λ (f : List Verdict). table n (λ p. freezes (fate f p) || marked ice p)) same-fates
+  pass-frozenCells = ap (λ (f : List Verdict). table n (λ p. freezes (fate f p) || marked frozenCells p)) same-fates
 
   pub moves-alike : moves rule (fates rule left) ≡ moves rule (fates rule right)
   moves-alike = ap (moves rule) same-fates
@@ -136,14 +130,14 @@ pub record Same (c d : Cleaned) : Type 0 where
   pub paint : (p : ℕ) → paintOf (at (c .state .cells) p) ≡ paintOf (at (d .state .cells) p)
   pub count : c .count ≡ d .count
 
-pub clean-alike : (rule : Rule) (k : ℕ) (a b : List ℤ) (ice : List Bool) → ((p : ℕ) → paintOf (at a p) ≡ paintOf (at b p)) → Same (clean rule k (record { cells = a; frozen = ice })) (clean rule k (record { cells = b; frozen = ice }))
+pub clean-alike : (rule : Rule) (k : ℕ) (a b : List ℤ) (frozenCells : List Bool) → ((p : ℕ) → paintOf (at a p) ≡ paintOf (at b p)) → Same (clean rule k (record { cells = a; frozen = frozenCells })) (clean rule k (record { cells = b; frozen = frozenCells }))
 unfolding clean
-clean-alike rule zero a b ice same = record { paint = same; count = refl }
-clean-alike rule (suc k) a b ice same =
-    let s : State = record { cells = a; frozen = ice } in
-    let t : State = record { cells = b; frozen = ice } in
+clean-alike rule zero a b frozenCells same = record { paint = same; count = refl }
+clean-alike rule (suc k) a b frozenCells same =
+    let s : State = record { cells = a; frozen = frozenCells } in
+    let t : State = record { cells = b; frozen = frozenCells } in
     case (moves rule (fates rule s))
-    (λ y. let i = clean-alike rule k (pass rule s .cells) (pass rule t .cells) (pass rule s .frozen) (pass-alike rule a b same ice) in
-    let j : Same (clean rule k (pass rule s)) (clean rule k (pass rule t)) = subst (λ (x : List Bool). Same (clean rule k (pass rule s)) (clean rule k (record { cells = pass rule t .cells; frozen = x }))) (pass-ice rule a b same ice) i in
-    rw (clean-go rule k s y, clean-go rule k t (sym (moves-alike rule a b same ice) ∙ y)) (record { paint = j .paint; count = ap suc (j .count) }))
-    (λ z. rw (clean-stop rule k s z, clean-stop rule k t (sym (moves-alike rule a b same ice) ∙ z)) (record { paint = pass-alike rule a b same ice; count = refl }))
+    (λ y. let i = clean-alike rule k (pass rule s .cells) (pass rule t .cells) (pass rule s .frozen) (pass-alike rule a b same frozenCells) in
+    let j : Same (clean rule k (pass rule s)) (clean rule k (pass rule t)) = subst (λ (x : List Bool). Same (clean rule k (pass rule s)) (clean rule k (record { cells = pass rule t .cells; frozen = x }))) (pass-frozenCells rule a b same frozenCells) i in
+    rw (clean-go rule k s y, clean-go rule k t (sym (moves-alike rule a b same frozenCells) ∙ y)) (record { paint = j .paint; count = ap suc (j .count) }))
+    (λ z. rw (clean-stop rule k s z, clean-stop rule k t (sym (moves-alike rule a b same frozenCells) ∙ z)) (record { paint = pass-alike rule a b same frozenCells; count = refl }))

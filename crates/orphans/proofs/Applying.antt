@@ -1,5 +1,5 @@
 -- What was judged and painted is the rules' pass. Assumes nothing.
-use Prim.Native.Nat.{ℕ, suc, _+_, _-_, _*_, _≤_, _<_}
+use Prim.Native.Nat.{ℕ, suc, _+_, _-_, _≤_, _<_}
 use mathlib.Core.Path.{_≡_, refl, sym, ap, _∙_}
 use mathlib.Core.Bool.{Bool, true, false, not, _&&_, _||_, cond}
 use mathlib.Core.List.{List}
@@ -16,14 +16,16 @@ use Rattle.rules.specs.Pass.{Rule, State, marked, Verdict, stay, merge, freeze,
 use Rattle.rules.proofs.Roots.{opaque-below}
 use Rattle.rules.proofs.Passes.{large-opaque, fate-at, cell-at, pass-length, frozen-at, frozen-length, repainted, unpainted-kept}
 use Rattle.rules.proofs.Groups.{Grouped, clear-fate}
+use Rattle.grid.specs.declared.Grid.{Grid}
 use Rattle.grid.specs.Planes.{plane, paintOf, cellOf, cellsOf}
 use Rattle.grid.proofs.Planes.{cells-size, cells-at, cells-paint}
-use Rattle.verdicts.specs.Judging.{stateOf, code, Indexed, Sound}
+use Rattle.verdicts.specs.Steps.{areaOf}
+use Rattle.verdicts.specs.Judging.{stateOf, code, Indexed}
 use Rattle.frontier.proofs.Growth.{merges-code}
-use Rattle.frontier.specs.Judging.{frozenOf}
+use Rattle.frontier.specs.Judging.{frozenOf, Stage}
 use Rattle.frontier.proofs.Stages.{frozen-is}
 use Rattle.frontier.proofs.Progress.{sound-ready}
-use Rattle.orphans.specs.Passing.{Passed}
+use Rattle.orphans.specs.Passing.{PassDone}
 use Rattle.orphans.proofs.Parts.{AllJudged, TargetsTaken}
 
 -- ---- numbers and verdicts
@@ -53,10 +55,15 @@ or-swap false false = refl
 
 -- ---- the pass
 
-module _ (rule : Rule) (symm : Symmetric (rule .adj)) (h w steps k : ℕ) (is : rule .places ≡ h * w) (a b d : List ℕ) (end mid : ℕ) (sound : Sound rule (h * w) a)
-    (u : AllJudged rule h w steps k end mid a b) (v : TargetsTaken (h * w) end mid b d) where
+module _ {rule : Rule} {grid : Grid} {k end mid : ℕ} {a b d : List ℕ} (st : Stage rule grid k end a) (u : AllJudged rule grid k end mid a b) (v : TargetsTaken (areaOf grid) end mid b d) where
   abbrev n : ℕ
-  n = h * w
+  n = areaOf grid
+
+  abbrev is : rule .places ≡ n
+  is = st .ruled .size
+
+  abbrev symm : Symmetric (rule .adj)
+  symm = st .ruled .symm
 
   abbrev s : State
   s = stateOf n a
@@ -68,7 +75,7 @@ module _ (rule : Rule) (symm : Symmetric (rule .adj)) (h w steps k : ℕ) (is : 
   num work x = plane n 6 work (plane n 1 a x - 1)
 
   grouped : Grouped rule s (plane n 1 a)
-  grouped = sound-ready rule symm n is a sound .grouped
+  grouped = sound-ready rule symm n is a (st .sound) .grouped
 
   in-rule : (x : ℕ) → x < n → x < rule .places
   in-rule x l = rw is l
@@ -140,7 +147,7 @@ module _ (rule : Rule) (symm : Symmetric (rule .adj)) (h w steps k : ℕ) (is : 
   unfolding frozenOf freezes
   frozen-is-b x l =
       elim (ℕ-discrete (plane n 1 a x) 0) [
-        | yes e ↦ (sym (frozen-is n b x l) ∙ u .judged .stage .sound .clear x l (label-b x l ∙ e) ∙ sym (rw (bare x l e) (sound .clear x l e)))
+        | yes e ↦ (sym (frozen-is n b x l) ∙ u .judged .stage .sound .clear x l (label-b x l ∙ e) ∙ sym (rw (bare x l e) (st .sound .clear x l e)))
         | no z ↦ (let some : 0 < plane n 1 a x = omega arith in
             u .judged .judging .frozen x (in-rule x l) some
             ∙ or-swap (marked (s .frozen) x) (eqb (num a x) 0 && eqb (num b x) 1)
@@ -179,9 +186,9 @@ module _ (rule : Rule) (symm : Symmetric (rule .adj)) (h w steps k : ℕ) (is : 
       yes-leb {m = suc end} {n = mid} (omega (arith, i .1, i .2)))
 
   -- a target is an index of the sheet
-  pub passed-known : Indexed n k a → Indexed n k d
+  pub passed-known : Indexed n k d
   unfolding stateOf
-  passed-known known = record { few = known .few; below = below }
+  passed-known = record { few = st .known .few; below = below }
     where
       len : length (cellsOf n a) ≡ rule .places
       len = cells-size n a ∙ sym is
@@ -195,8 +202,8 @@ module _ (rule : Rule) (symm : Symmetric (rule .adj)) (h w steps k : ℕ) (is : 
           case (repaints rule s x)
           (λ y. let r = repainted rule symm s len x y in
           let m : r .from < n = of-rule (r .from) (opaque-below (rule .places) (rule .adj) (cellsOf n a) len (r .from) (large-opaque rule symm (cellsOf n a) len (r .from) (r .big))) in
-          rw (as-cell x (r .from) l m (ap (λ (c : List ℤ). at c x) passed-cells ∙ r .takes x (here (r .was)))) (known .below (r .from) m))
-          (λ z. rw (as-cell x x l l (ap (λ (c : List ℤ). at c x) passed-cells ∙ unpainted-kept rule symm s len x z)) (known .below x l))
+          rw (as-cell x (r .from) l m (ap (λ (c : List ℤ). at c x) passed-cells ∙ r .takes x (here (r .was)))) (st .known .below (r .from) m))
+          (λ z. rw (as-cell x x l l (ap (λ (c : List ℤ). at c x) passed-cells ∙ unpainted-kept rule symm s len x z)) (st .known .below x l))
 
-  pub passed : Indexed n k a → Passed rule n k a d (ltb end mid)
-  passed known = record { len = v .len ∙ u .judged .len; state = passed-state; moves = passed-moves; known = passed-known known }
+  pub passed : PassDone rule n k a d (ltb end mid)
+  passed = record { len = v .len ∙ u .judged .len; state = passed-state; moves = passed-moves; known = passed-known }

@@ -11,9 +11,9 @@ use lib.ListN.{length}
 use Rattle.rules.specs.Pass.{Rule, State, Cleaned, fresh, clean}
 use Rattle.rules.proofs.Runs.{clean-go, clean-stop}
 use Rattle.grid.specs.Planes.{plane, cellOf, cellsOf}
-use Rattle.grid.specs.Filling.{Sized}
+use Rattle.labels.specs.Filling.{Sized}
 use Rattle.verdicts.specs.Judging.{stateOf, Indexed}
-use Rattle.orphans.specs.Passing.{Wiped, Passed, CleanedTo}
+use Rattle.orphans.specs.Passing.{Wiped, PassDone, CleanedTo}
 use Rattle.base.proofs.Counting.{table-same}
 
 -- ---- a sheet with no cell frozen
@@ -57,7 +57,7 @@ module _ (rule : Rule) (n k max : ℕ) (a : List ℕ) where
     one-more : max - count ≡ suc left
     one-more = omega arith
 
-    pub going-on : {c : List ℕ} → Passed rule n k b c true → Going rule n k max a c (count + 1)
+    pub going-on : {c : List ℕ} → PassDone rule n k b c true → Going rule n k max a c (count + 1)
     going-on {c} p =
         let g = clean-go rule left (stateOf n b) (sym (p .moves)) in
         record {
@@ -69,7 +69,7 @@ module _ (rule : Rule) (n k max : ℕ) (a : List ℕ) where
         }
 
     -- the last pass repaints nothing
-    pub going-stops : {c : List ℕ} → Passed rule n k b c false → CleanedTo (clean rule max (stateOf n a)) n k a c count
+    pub going-stops : {c : List ℕ} → PassDone rule n k b c false → CleanedTo (clean rule max (stateOf n a)) n k a c count
     going-stops p =
         let g = clean-stop rule left (stateOf n b) (sym (p .moves)) in
         record {

@@ -1,5 +1,5 @@
 -- After a pass the next may begin. Assumes nothing.
-use Prim.Native.Nat.{ℕ, _-_, _*_, _≤_, _<_}
+use Prim.Native.Nat.{ℕ, _-_, _≤_, _<_}
 use mathlib.Core.Path.{_≡_, refl, sym, ap, _∙_}
 use mathlib.Core.Logic.{_⊎_, inl, inr, ⊎-elim}
 use mathlib.Core.Bool.{Bool, true, false, not, _&&_, _||_}
@@ -14,7 +14,9 @@ use Rattle.rules.specs.Pass.{Rule, State, marked, small, large, Verdict, stay, 
 use Rattle.rules.proofs.Roots.{opaque-below}
 use Rattle.rules.proofs.Passes.{large-opaque, small-opaque, large-stays, repainted-large, fate-at, frozen-at}
 use Rattle.rules.proofs.Groups.{Ready, ready-next}
+use Rattle.grid.specs.declared.Grid.{Grid}
 use Rattle.grid.specs.Planes.{plane, cellsOf}
+use Rattle.verdicts.specs.Steps.{areaOf}
 use Rattle.verdicts.specs.Judging.{stateOf, code, Indexed, largeOf, Sound}
 use Rattle.grid.proofs.Planes.{index-is}
 use Rattle.frontier.specs.Judging.{Numbered, Stage}
@@ -39,10 +41,16 @@ code-none stay e = refl
 code-none (merge c d) e = refl
 code-none (freeze c d) e = absurd (omega arith)
 
-module _ (rule : Rule) (symm : Symmetric (rule .adj)) (h w steps k : ℕ) (is : rule .places ≡ h * w) (a b d : List ℕ) (end mid last : ℕ) (rest : BetweenPasses rule h w steps k end a)
-    (u : AllJudged rule h w steps k end mid a b) (v : TargetsTaken (h * w) end mid b d) (g : GrownTo rule (h * w) end last a b d) where
+module _ {rule : Rule} {grid : Grid} {k end mid last : ℕ} {a b d : List ℕ} (rest : BetweenPasses rule grid k end a)
+    (u : AllJudged rule grid k end mid a b) (v : TargetsTaken (areaOf grid) end mid b d) (g : GrownTo rule (areaOf grid) end last a b d) where
   abbrev n : ℕ
-  n = h * w
+  n = areaOf grid
+
+  abbrev is : rule .places ≡ n
+  is = rest .stage .ruled .size
+
+  abbrev symm : Symmetric (rule .adj)
+  symm = rest .stage .ruled .symm
 
   abbrev sound : Sound rule n a
   sound = rest .stage .sound
@@ -79,13 +87,13 @@ module _ (rule : Rule) (symm : Symmetric (rule .adj)) (h w steps k : ℕ) (is : 
   ready′ = ready-next rule symm s (plane n 1 a) (ready .grouped) (largeOf n a) (large rule (cellsOf n a)) (largeOf n d) ready (g .grown)
 
   cells-are : cellsOf n d ≡ s′ .cells
-  cells-are = passed-cells rule symm h w steps k is a b d end mid sound u v
+  cells-are = passed-cells (rest .stage) u v
 
   state-is : stateOf n d ≡ s′
-  state-is = passed-state rule symm h w steps k is a b d end mid sound u v
+  state-is = passed-state (rest .stage) u v
 
   frozen-still : (x : ℕ) → marked (stateOf n d .frozen) x ≡ marked (s′ .frozen) x
-  frozen-still x = ap (λ (l : List Bool). marked l x) (passed-frozen rule symm h w steps k is a b d end mid sound u v)
+  frozen-still x = ap (λ (l : List Bool). marked l x) (passed-frozen (rest .stage) u v)
 
   label-d : (x : ℕ) → x < n → plane n 1 d x ≡ plane n 1 a x
   label-d x l = g .same 1 x (omega arith) (omega arith) l ∙ u .judged .same 1 x (omega arith) l
@@ -136,12 +144,12 @@ module _ (rule : Rule) (symm : Symmetric (rule .adj)) (h w steps k : ℕ) (is : 
   alike = record { label = λ q l. g .same 1 q (omega arith) (omega arith) l; order = λ q l. g .same 2 q (omega arith) (omega arith) l; ends = λ q l. g .same 3 q (omega arith) (omega arith) l }
 
   known′ : Indexed n k d
-  known′ = passed-known rule symm h w steps k is a b d end mid sound u v (rest .stage .known)
+  known′ = passed-known (rest .stage) u v
 
   shown′ : (x : ℕ) → x < n → opaque (s′ .cells) x ≡ true → 1 ≤ plane n 0 d x
   shown′ x l o = let e = index-is n d x l (ap (λ (c : List ℤ). opaque c x) cells-are ∙ o) in omega arith
 
-  sheet′ : GroupedSheet h w steps d
+  sheet′ : GroupedSheet grid d
   sheet′ =
       let old = u .judged .stage .sheet in
       record {
@@ -176,8 +184,9 @@ module _ (rule : Rule) (symm : Symmetric (rule .adj)) (h w steps k : ℕ) (is : 
         ∙ u .judged .stage .sound .clear x l (sym (g .same 1 x (omega arith) (omega arith) l) ∙ e);
   }
 
-  stage′ : Stage rule h w steps k last d
+  stage′ : Stage rule grid k last d
   stage′ = record {
+    ruled = rest .stage .ruled;
     sheet = sheet′;
     known = known′;
     sound = sound′;
@@ -186,7 +195,7 @@ module _ (rule : Rule) (symm : Symmetric (rule .adj)) (h w steps k : ℕ) (is : 
   }
 
   -- the next pass goes by what grew
-  pub at-frontier : AtFrontier rule h w steps k end last d
+  pub at-frontier : AtFrontier rule grid k end last d
   at-frontier = record {
     between = record { stage = stage′; told = told′; taken = g .taken };
     front = grew;

@@ -1,5 +1,5 @@
 -- A labelled sheet: its regions are groups, and what the planes 0 to 4 tell stays while only the others are written. Assumes nothing.
-use Prim.Native.Nat.{ℕ, zero, suc, _*_, _≤_, _<_}
+use Prim.Native.Nat.{ℕ, zero, suc, _≤_, _<_}
 use mathlib.Core.Path.{_≡_, refl, sym, ap, _∙_}
 use mathlib.Core.Bool.{Bool, true}
 use mathlib.Core.List.{List}
@@ -9,10 +9,12 @@ use lib.IntN.{ℤ}
 use lib.ListN.{length}
 use Rattle.rules.specs.Regions.{opaque, root, Symmetric}
 use Rattle.rules.specs.Pass.{few, isLarge, large}
-use Rattle.grid.specs.Steps.{hood}
+use Rattle.grid.specs.declared.Grid.{Grid}
 use Rattle.grid.specs.Planes.{plane, cellsOf, groupAt, endOf, Labelled}
-use Rattle.grid.proofs.Places.{hood-symmetric}
+use Rattle.grid.proofs.Places.{neighbours-symmetric}
 use Rattle.grid.proofs.Planes.{cells-size, cells-kept}
+use Rattle.verdicts.specs.declared.Criteria.{Criteria}
+use Rattle.verdicts.specs.Steps.{areaOf, adjoins}
 use Rattle.verdicts.specs.Groups.{Group}
 use Rattle.verdicts.specs.Judging.{ruleOf}
 use Rattle.orphans.specs.Starting.{LabelledSheet, inLarge}
@@ -63,27 +65,30 @@ module _ (adj : ℕ → ℕ → Bool) (cells : List ℤ) (n : ℕ) (a : List ℕ
 
 -- ---- a labelled sheet
 
-module _ (h w steps : ℕ) (a : List ℕ) (sheet : LabelledSheet h w steps a) where
+module _ {grid : Grid} {a : List ℕ} (sheet : LabelledSheet grid a) where
   abbrev n : ℕ
-  n = h * w
+  n = areaOf grid
+
+  abbrev adj : ℕ → ℕ → Bool
+  adj = adjoins grid
 
   abbrev cells : List ℤ
   cells = cellsOf n a
 
-  pub symmetric : Symmetric (hood steps w)
-  symmetric = hood-symmetric steps (sheet .ways) w
+  pub symmetric : Symmetric adj
+  symmetric = neighbours-symmetric (grid .steps) (sheet .ways) (grid .w)
 
   pub sheet-few : sheet .regions ≤ n
-  sheet-few = regions-le n (hood steps w) cells a (sheet .regions) (sheet .taken) (cells-size n a) symmetric (sheet .labelled)
+  sheet-few = regions-le n adj cells a (sheet .regions) (sheet .taken) (cells-size n a) symmetric (sheet .labelled)
 
   pub label-below : (q : ℕ) → q < n → plane n 1 a q ≤ sheet .regions
-  label-below = label-in n (hood steps w) cells a (sheet .regions) (sheet .taken) (cells-size n a) symmetric (sheet .labelled)
+  label-below = label-in n adj cells a (sheet .regions) (sheet .taken) (cells-size n a) symmetric (sheet .labelled)
 
   pub label-some : (q : ℕ) → opaque cells q ≡ true → 1 ≤ plane n 1 a q
-  label-some = labelled n (hood steps w) cells a (sheet .regions) (sheet .taken) (cells-size n a) symmetric (sheet .labelled)
+  label-some = labelled n adj cells a (sheet .regions) (sheet .taken) (cells-size n a) symmetric (sheet .labelled)
 
   pub label-shown : (q : ℕ) → q < n → 0 < plane n 1 a q → opaque cells q ≡ true
-  label-shown q l z = shown n (hood steps w) cells a (sheet .regions) (sheet .taken) (cells-size n a) symmetric (sheet .labelled) q l (λ e. omega arith)
+  label-shown q l z = shown n adj cells a (sheet .regions) (sheet .taken) (cells-size n a) symmetric (sheet .labelled) q l (λ e. omega arith)
 
   -- a region's places stand together
   pub sheet-group : (t : ℕ) → t < sheet .regions → Group n a t
@@ -92,19 +97,19 @@ module _ (h w steps : ℕ) (a : List ℕ) (sheet : LabelledSheet h w steps a) wh
       let lab = sheet .labelled in
       record {
         label = omega (arith, sheet-few);
-        some = not-empty n (hood steps w) cells a (sheet .regions) (sheet .taken) (cells-size n a) symmetric lab t l;
+        some = not-empty n adj cells a (sheet .regions) (sheet .taken) (cells-size n a) symmetric lab t l;
         end = omega (arith, lab .limits (suc t) l, lab .room);
-        places = λ i lo hi. let r = run-in n (hood steps w) cells a (sheet .regions) (sheet .taken) (cells-size n a) symmetric lab t l i lo hi in (lab .placed i (r .0) .0, r .1);
-        all = placed-at n (hood steps w) cells a (sheet .regions) (sheet .taken) (cells-size n a) symmetric lab t l;
+        places = λ i lo hi. let r = run-in n adj cells a (sheet .regions) (sheet .taken) (cells-size n a) symmetric lab t l i lo hi in (lab .placed i (r .0) .0, r .1);
+        all = placed-at n adj cells a (sheet .regions) (sheet .taken) (cells-size n a) symmetric lab t l;
       }
 
   -- a place lies in a large region exactly if its label's region has enough places
-  pub sheet-large : (limit : ℕ) (palette : List Float) (reach : Float) (q : ℕ) → q < n → inLarge n limit a q ≡ large (ruleOf h w steps limit palette reach) cells q
+  pub sheet-large : (by : Criteria) (palette : List Float) (q : ℕ) → q < n → inLarge n (by .limit) a q ≡ large (ruleOf grid by palette) cells q
   unfolding ruleOf large isLarge few root
-  sheet-large limit palette reach = inLarge-is n (hood steps w) cells a (sheet .regions) (sheet .taken) (cells-size n a) symmetric (sheet .labelled) limit
+  sheet-large by palette = inLarge-is n adj cells a (sheet .regions) (sheet .taken) (cells-size n a) symmetric (sheet .labelled) (by .limit)
 
-  module _ (b : List ℕ) (u : Kept n a b) where
-    pub sheet-kept : LabelledSheet h w steps b
+  module _ {b : List ℕ} (u : Kept n a b) where
+    pub sheet-kept : LabelledSheet grid b
     sheet-kept = record {
       rows = sheet .rows;
       cols = sheet .cols;
@@ -113,7 +118,7 @@ module _ (h w steps : ℕ) (a : List ℕ) (sheet : LabelledSheet h w steps a) wh
       paint = λ q l. rw (u .same 0 q (omega arith) l) (sheet .paint q l);
       regions = sheet .regions;
       taken = sheet .taken;
-      labelled = rw (cells-kept n b a (λ p l. u .same 0 p (omega arith) l)) (labelled-kept (hood steps w) cells n a (sheet .regions) (sheet .taken) (cells-size n a) symmetric (sheet .labelled) b u);
+      labelled = rw (cells-kept n b a (λ p l. u .same 0 p (omega arith) l)) (labelled-kept adj cells n a (sheet .regions) (sheet .taken) (cells-size n a) symmetric (sheet .labelled) b u);
     }
 
     pub regions-kept : sheet-kept .regions ≡ sheet .regions
@@ -121,4 +126,4 @@ module _ (h w steps : ℕ) (a : List ℕ) (sheet : LabelledSheet h w steps a) wh
     regions-kept = refl
 
     pub large-kept : (limit q : ℕ) → q < n → inLarge n limit b q ≡ inLarge n limit a q
-    large-kept = inLarge-kept (hood steps w) cells n a (sheet .regions) (sheet .taken) (cells-size n a) symmetric (sheet .labelled) b u
+    large-kept = inLarge-kept adj cells n a (sheet .regions) (sheet .taken) (cells-size n a) symmetric (sheet .labelled) b u

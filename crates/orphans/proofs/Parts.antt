@@ -1,5 +1,5 @@
 -- The parts of a pass: what judging, repainting and absorbing leave of the planes. Definitions only. Assumes nothing.
-use Prim.Native.Nat.{ℕ, suc, _+_, _-_, _*_, _≤_, _<_}
+use Prim.Native.Nat.{ℕ, suc, _+_, _-_, _≤_, _<_}
 use mathlib.Core.Path.{_≡_}
 use mathlib.Core.Bool.{true, cond}
 use mathlib.Core.List.{List}
@@ -8,15 +8,17 @@ use lib.ListN.{length}
 use Rattle.base.specs.Places.{count}
 use Rattle.rules.specs.Pass.{Rule, fates, fate}
 use Rattle.rules.proofs.Groups.{Grown}
+use Rattle.grid.specs.declared.Grid.{Grid}
 use Rattle.grid.specs.Planes.{plane}
+use Rattle.verdicts.specs.Steps.{areaOf}
 use Rattle.verdicts.specs.Judging.{stateOf, code, largeOf}
 use Rattle.frontier.specs.Judging.{idle, Met}
 use Rattle.frontier.specs.Growing.{Logged}
 
 -- A pass from a has judged, and left b: the new numbers are those of all fates
-pub record AllJudged (rule : Rule) (h w steps k end mid : ℕ) (a b : List ℕ) : Type 0 where
-  pub judged : Met rule h w steps k (λ l. ⊥) a b end mid
-  pub fates : (x : ℕ) → x < h * w → 0 < plane (h * w) 1 a x → code (fate (fates rule (stateOf (h * w) a)) x) ≡ cond (eqb (plane (h * w) 6 a (plane (h * w) 1 a x - 1)) 0) (plane (h * w) 6 b (plane (h * w) 1 a x - 1)) 0
+pub record AllJudged (rule : Rule) (grid : Grid) (k end mid : ℕ) (a b : List ℕ) : Type 0 where
+  pub judged : Met rule grid k (λ l. ⊥) a b end mid
+  pub fates : (x : ℕ) → x < areaOf grid → 0 < plane (areaOf grid) 1 a x → code (fate (fates rule (stateOf (areaOf grid) a)) x) ≡ cond (eqb (plane (areaOf grid) 6 a (plane (areaOf grid) 1 a x - 1)) 0) (plane (areaOf grid) 6 b (plane (areaOf grid) 1 a x - 1)) 0
 
 -- the groups of the log from `end` on and before `mid` have taken their targets, and what is frozen stays so
 pub record TargetsTaken (n end mid : ℕ) (b d : List ℕ) : Type 0 where

@@ -19,17 +19,19 @@ use Rattle.rules.specs.Pass.{Rule, State, pass, repaints, moves, fates, fresh, 
 use Rattle.rules.specs.Palette.{paletteOf, colour}
 use Rattle.rules.specs.Sheet.{area, sheetOf, over}
 use Rattle.rules.specs.Rows.{badIndex}
-use Rattle.rules.specs.Run.{limitsAt, ruleOn, Tidied, tidy}
+use Rattle.rules.specs.Calls.{limitsAt}
+use Rattle.rules.specs.Run.{ruleOn, ruleFor, CleanedSheet, cleanSheet}
 use Rattle.rules.proofs.Passes.{pass-length, repainted, unpainted-kept}
 use Rattle.rules.proofs.Runs.{clean-go, clean-stop, run-length}
-use Rattle.rules.proofs.More.{pass-opaque, clean-opaque}
-use Rattle.rules.proofs.Sheets.{limit-one}
+use Rattle.rules.proofs.More.{pass-opaque, clean-opaque, limit-one}
 use Rattle.rules.proofs.Grids.{eight-symmetric}
-use Rattle.grid.specs.Steps.{hood}
+use Rattle.grid.specs.declared.Grid.{Grid}
+use Rattle.grid.specs.Steps.{neighbours}
 use Rattle.grid.specs.Planes.{plane, paintOf, cellsOf}
 use Rattle.grid.specs.Tiles.{repaint}
 use Rattle.grid.proofs.Planes.{Painted, cells-paint, painted-alike}
-use Rattle.verdicts.specs.Choice.{apart}
+use Rattle.verdicts.specs.declared.Criteria.{Criteria}
+use Rattle.verdicts.specs.Choice.{entryDistance}
 use Rattle.verdicts.specs.Judging.{ruleOf, stateOf, Indexed}
 use Rattle.orphans.specs.Passing.{CleanedTo}
 use Rattle.orphans.specs.Entry.{Fit}
@@ -105,9 +107,17 @@ module _ (rule : Rule) (symm : Symmetric (rule .adj)) (n k passes : ℕ) (e : ru
 
 -- ---- as the code has it
 
+-- the grid of a sheet, with steps to all eight neighbours
+abbrev gridOf : ℕ → ℕ → Grid
+gridOf h w = record { h = h; w = w; steps = 8 }
+
+-- what its cleaning goes by
+abbrev criteria : ℕ → ℕ → Float → Criteria
+criteria k limit reach = record { k = k; limit = limit; «max_delta» = reach }
+
 -- the rule of the planes is the rule on a sheet
-rule-is : (h w limit : ℕ) (palette : List Float) (k : ℕ) (region : ℤ) (reach : Float) → pos limit ≡ region → ruleOf h w 8 limit palette reach ≡ ruleOn (h * w) w (paletteOf palette k) (limitsAt region reach)
-unfolding ruleOf ruleOn apart colour hood
+rule-is : (h w limit : ℕ) (palette : List Float) (k : ℕ) (region : ℤ) (reach : Float) → pos limit ≡ region → ruleOf (gridOf h w) (criteria k limit reach) palette ≡ ruleOn (h * w) w (paletteOf palette k) (limitsAt region reach)
+unfolding ruleOf ruleOn entryDistance colour neighbours
 rule-is h w limit palette k region reach e = rw e
 
 pub below : (z : ℤ) → ltZ z (pos 2) ≡ true → leZ (pos 2) z ≡ false
@@ -145,12 +155,12 @@ module _ {cells : List ℤ} {h w : ℕ} {palette : List Float} {k : ℕ} {region
     abbrev rule : Rule
     rule = ruleOn (h * w) w (paletteOf palette k) (limitsAt region reach)
 
-    abbrev tidied : Tidied
-    tidied = tidy passes (paletteOf palette k) (limitsAt region reach) (sheetOf cells h w)
+    abbrev cleanedTo : CleanedSheet
+    cleanedTo = cleanSheet passes (paletteOf palette k) (limitsAt region reach) (sheetOf cells h w)
 
     -- no region can be small
-    pub none-cleaned : ltZ region (pos 2) ≡ true → (0 ≡ tidied .passes) × (cells ≡ over (tidied .sheet .cells) cells)
-    unfolding tidy ruleOn sheetOf area over fresh
+    pub none-cleaned : ltZ region (pos 2) ≡ true → (0 ≡ cleanedTo .passes) × (cells ≡ over (cleanedTo .sheet .cells) cells)
+    unfolding cleanSheet ruleFor ruleOn sheetOf area over fresh
     none-cleaned low =
         let t = limit-one rule (eight-symmetric w) low (take (h * w) cells) (front cells h w (fit .reads)) passes in (
           ap (λ (c : Cleaned). c .count) (sym t),
@@ -162,9 +172,9 @@ module _ {cells : List ℤ} {h w : ℕ} {palette : List Float} {k : ℕ} {region
 
     -- the sheet was loaded to the planes a, cleaned to b and stored
     pub all-cleaned : (limit : ℕ) → pos limit ≡ region → (a b : List ℕ) (count : ℕ) → Painted (take (h * w) cells) (h * w) a →
-        CleanedTo (clean (ruleOf h w 8 limit palette reach) passes (fresh (ruleOf h w 8 limit palette reach) (cellsOf (h * w) a))) (h * w) k a b count →
-        (count ≡ tidied .passes) × (filled (h * w) (λ i. repaint (plane (h * w) 0 b i) (at cells i)) cells ≡ over (tidied .sheet .cells) cells)
-    unfolding tidy ruleOn sheetOf area filled at
+        CleanedTo (clean (ruleOf (gridOf h w) (criteria k limit reach) palette) passes (fresh (ruleOf (gridOf h w) (criteria k limit reach) palette) (cellsOf (h * w) a))) (h * w) k a b count →
+        (count ≡ cleanedTo .passes) × (filled (h * w) (λ i. repaint (plane (h * w) 0 b i) (at cells i)) cells ≡ over (cleanedTo .sheet .cells) cells)
+    unfolding cleanSheet ruleFor ruleOn sheetOf area filled at
     all-cleaned limit e a b count painted u =
         let v : CleanedTo (clean rule passes (fresh rule (cellsOf (h * w) a))) (h * w) k a b count =
         subst (λ (r : Rule). CleanedTo (clean r passes (fresh r (cellsOf (h * w) a))) (h * w) k a b count) (rule-is h w limit palette k region reach e) u in (

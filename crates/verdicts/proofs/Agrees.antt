@@ -1,17 +1,19 @@
 -- Where all large cells beside a region have one paint, that is the index of every vote on it. Assumes nothing.
-use Prim.Native.Nat.{ℕ, zero, suc, _+_, _-_, _*_, _≤_, _<_}
+use Prim.Native.Nat.{ℕ, zero, suc, _+_, _-_, _≤_, _<_}
 use mathlib.Core.Path.{_≡_, refl, sym, ap, _∙_}
 use mathlib.Core.Logic.{_⊎_, inl, inr, ⊎-elim}
-use mathlib.Core.Bool.{true}
 use mathlib.Core.List.{List}
 use mathlib.Core.Option.{Option, none, some}
 use native.Mathlib.Nat.{not-suc-le-zero, lt-suc-self, le-step}
 use native.Mathlib.Decide.{ℕ-discrete}
 use native.Mathlib.Omega.{arith}
 use borrow.Author.Tests.{eq-eqb, ne-eqb}
-use Rattle.grid.specs.Steps.{hood}
+use Rattle.grid.specs.declared.Grid.{Grid}
 use Rattle.grid.specs.Planes.{plane}
-use Rattle.grid.proofs.Places.{hop, some-inj, none-some, hop-in, hood-sound, hood-complete}
+use Rattle.grid.proofs.Places.{hop, some-inj, none-some, hop-in, neighbours-sound, neighbours-complete}
+use Rattle.verdicts.specs.Steps.{areaOf}
+use Rattle.verdicts.specs.Groups.{GroupedSheet}
+use Rattle.verdicts.specs.Polling.{Beside}
 use Rattle.verdicts.specs.Agreeing.{joined, asked, askedBeside, askedAround, onePaint}
 
 -- What the places that A names have, if they are large: 0 none is; 257 nothing is said; else all have that paint, and one is
@@ -72,36 +74,51 @@ module _ (n : ℕ) (a : List ℕ) (paints : (q : ℕ) → q < n → (plane n 5 a
       agrees-as (λ q. ⊎-elim inl (λ y. inr (ap some (sym y)))) (λ q. ⊎-elim inl (λ y. inr (sym (some-inj y))))
       (elim (ℕ-discrete (plane n 5 a p) 0) [ yes e ↦ rw (eq-eqb (plane n 5 a p) 0 e) (agrees-small u p e) | no d ↦ rw (ne-eqb (plane n 5 a p) 0 d) (agrees-large u p (i p refl) d) ])
 
-module _ (h w steps : ℕ) (ways : (steps ≡ 4) ⊎ (steps ≡ 8)) (a : List ℕ) (paints : (q : ℕ) → q < h * w → (plane (h * w) 5 a q ≡ 0 → ⊥) → (1 ≤ plane (h * w) 0 a q) × (plane (h * w) 0 a q ≤ 256)) where
+-- the paint that is told is that of every large neighbour of the run from `from` on and before `to`, and there is one
+pub record OnePaint (grid : Grid) (a : List ℕ) (from to v : ℕ) : Type 0 where
+  pub place : ℕ
+  pub inside : place < areaOf grid
+  pub beside : Beside grid a from to place
+  pub big : plane (areaOf grid) 5 a place ≡ 0 → ⊥
+  pub same : (q : ℕ) → q < areaOf grid → Beside grid a from to q → (plane (areaOf grid) 5 a q ≡ 0 → ⊥) → plane (areaOf grid) 0 a q ≡ v
+
+module _ (grid : Grid) (a : List ℕ) (sheet : GroupedSheet grid a) where
+  abbrev n : ℕ
+  n = areaOf grid
+
+  abbrev h : ℕ
+  h = grid .h
+
+  abbrev w : ℕ
+  w = grid .w
+
+  abbrev steps : ℕ
+  steps = grid .steps
+
+  paints : (q : ℕ) → q < n → (plane n 5 a q ≡ 0 → ⊥) → (1 ≤ plane n 0 a q) × (plane n 0 a q ≤ 256)
+  paints q l z = (sheet .large q l z, sheet .paint q l)
+
   -- a place, step by step
-  agrees-beside : {A : ℕ → Type 0} {t : ℕ} (p k : ℕ) → Agrees (h * w) a A t → Agrees (h * w) a (λ q. A q ⊎ ((i : ℕ) × (i < k) × (hop h w p i ≡ some q))) (askedBeside h w a p k t)
+  agrees-beside : {A : ℕ → Type 0} {t : ℕ} (p k : ℕ) → Agrees n a A t → Agrees n a (λ q. A q ⊎ ((i : ℕ) × (i < k) × (hop h w p i ≡ some q))) (askedBeside grid a p k t)
   unfolding askedBeside
-  agrees-beside p zero u = agrees-as (h * w) a paints (λ q. inl) (λ q. ⊎-elim (λ y. y) (λ y. absurd (not-suc-le-zero (y .1)))) u
+  agrees-beside p zero u = agrees-as n a paints (λ q. inl) (λ q. ⊎-elim (λ y. y) (λ y. absurd (not-suc-le-zero (y .1)))) u
   agrees-beside p (suc k) u =
-      agrees-as (h * w) a paints
+      agrees-as n a paints
       (λ q. ⊎-elim (⊎-elim inl (λ y. inr (y .0, le-step (y .1), y .2))) (λ y. inr (k, lt-suc-self k, y)))
       (λ q. ⊎-elim (λ y. inl (inl y)) (λ y. elim (ℕ-discrete (y .0) k) [ yes e ↦ inr (rw e at (y .2)) | no d ↦ inl (inr (y .0, omega (arith, y .1), y .2)) ]))
-      (agrees-step (h * w) a paints (hop h w p k) (hop-in h w p k) (agrees-beside p k u))
+      (agrees-step n a paints (hop h w p k) (hop-in h w p k) (agrees-beside p k u))
 
   -- the places of a run, one by one
-  agrees-around : (from many : ℕ) → Agrees (h * w) a (λ q. (j : ℕ) × (j < many) × (i : ℕ) × (i < steps) × (hop h w (plane (h * w) 2 a (from + j)) i ≡ some q)) (askedAround h w steps a from many)
+  agrees-around : (from many : ℕ) → Agrees n a (λ q. (j : ℕ) × (j < many) × (i : ℕ) × (i < steps) × (hop h w (plane n 2 a (from + j)) i ≡ some q)) (askedAround grid a from many)
   unfolding askedAround
-  agrees-around from zero = agrees-as (h * w) a paints (λ q z. absurd z) (λ q z. absurd (not-suc-le-zero (z .1))) (agrees-none (h * w) a paints)
+  agrees-around from zero = agrees-as n a paints (λ q z. absurd z) (λ q z. absurd (not-suc-le-zero (z .1))) (agrees-none n a paints)
   agrees-around from (suc many) =
-      agrees-as (h * w) a paints
+      agrees-as n a paints
       (λ q. ⊎-elim (λ y. (y .0, le-step (y .1), y .2, y .3, y .4)) (λ y. (many, lt-suc-self many, y .0, y .1, y .2)))
       (λ q y. elim (ℕ-discrete (y .0) many) [ yes e ↦ inr (y .2, y .3, rw e at (y .4)) | no d ↦ inl (y .0, omega (arith, y .1), y .2, y .3, y .4) ])
-      (agrees-beside (plane (h * w) 2 a (from + many)) steps (agrees-around from many))
+      (agrees-beside (plane n 2 a (from + many)) steps (agrees-around from many))
 
-  -- the paint that is told is that of every large neighbour of the run from `from` on and before `to`, and there is one
-  pub record OnePaint (from to v : ℕ) : Type 0 where
-    pub place : ℕ
-    pub inside : place < h * w
-    pub beside : (i : ℕ) × (from ≤ i) × (i < to) × (hood steps w (plane (h * w) 2 a i) place ≡ true)
-    pub big : plane (h * w) 5 a place ≡ 0 → ⊥
-    pub same : (q : ℕ) → q < h * w → (i : ℕ) × (from ≤ i) × (i < to) × (hood steps w (plane (h * w) 2 a i) q ≡ true) → (plane (h * w) 5 a q ≡ 0 → ⊥) → plane (h * w) 0 a q ≡ v
-
-  pub one-paint : (from to v : ℕ) → from ≤ to → v ≡ onePaint (askedAround h w steps a from (to - from)) → (v ≡ 0 → ⊥) → OnePaint from to v
+  pub one-paint : (from to v : ℕ) → from ≤ to → v ≡ onePaint (askedAround grid a from (to - from)) → (v ≡ 0 → ⊥) → OnePaint grid a from to v
   unfolding onePaint
   one-paint from to v le e z =
       elim (ℕ-discrete found 257) [
@@ -110,9 +127,9 @@ module _ (h w steps : ℕ) (ways : (steps ≡ 4) ⊎ (steps ≡ 8)) (a : List �
       ]
     where
       found : ℕ
-      found = askedAround h w steps a from (to - from)
+      found = askedAround grid a from (to - from)
 
-      told : (found ≡ 257 → ⊥) → v ≡ found → OnePaint from to v
+      told : (found ≡ 257 → ⊥) → v ≡ found → OnePaint grid a from to v
       told d f =
           let u = agrees-around from (to - from) in
           let o : found ≡ 0 → ⊥ = (λ y. z (f ∙ y)) in
@@ -120,10 +137,10 @@ module _ (h w steps : ℕ) (ways : (steps ≡ 4) ⊎ (steps ≡ 8)) (a : List �
           let p = x .1 in
           record {
             place = x .0;
-            inside = hop-in h w (plane (h * w) 2 a (from + p .0)) (p .2) (x .0) (p .4);
-            beside = (from + p .0, omega arith, omega (arith, p .1), hood-sound steps ways h w (plane (h * w) 2 a (from + p .0)) (p .2) (x .0) (p .3) (p .4));
+            inside = hop-in h w (plane n 2 a (from + p .0)) (p .2) (x .0) (p .4);
+            beside = (from + p .0, omega arith, omega (arith, p .1), neighbours-sound steps (sheet .ways) h w (plane n 2 a (from + p .0)) (p .2) (x .0) (p .3) (p .4));
             big = x .2;
-            same = λ q l b y. let s = hood-complete steps ways h w (plane (h * w) 2 a (b .0)) q l (b .3) in
+            same = λ q l b y. let s = neighbours-complete steps (sheet .ways) h w (plane n 2 a (b .0)) q l (b .3) in
                 let i : from + (b .0 - from) ≡ b .0 = omega (arith, b .1) in
                 u .same o d q (b .0 - from, omega (arith, b .1, b .2), s .0, s .1, rw i (s .2)) y ∙ sym f;
           }

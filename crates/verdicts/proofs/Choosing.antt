@@ -16,8 +16,9 @@ use lib.IntN.{ℤ}
 use lib.ListN.{getD, replicate, getD-replicate}
 use Rattle.base.specs.Places.{greatest}
 use Rattle.base.proofs.Counting.{case, clash, left, right, both, same-test, eqb-yes, yes-eqb, leb-yes, yes-leb, no-leb, count-some, count-yes, greatest-above, greatest-is}
+use Rattle.rules.specs.Palette.{firstLeast}
 use Rattle.rules.specs.Regions.{at, index}
-use Rattle.rules.specs.Pass.{Rule, marked, votes, most, frequent, choose, target, judged}
+use Rattle.rules.specs.Pass.{Rule, marked, votes, most, frequent, judged}
 use Rattle.verdicts.specs.declared.target.Target.{Target}
 use Rattle.verdicts.specs.declared.target.Target.the-variants.{Nothing, Index}
 use Rattle.verdicts.specs.Choice.{peak, nearer, nearest, decision, choice}
@@ -102,6 +103,10 @@ module _ (rule : Rule) (cells : List ℤ) (voters : List Bool) (own : ℕ) (coun
   abbrev far : ℕ → Float
   far = rule .dist own
 
+  -- the target among the indices below j
+  abbrev below : ℕ → Option ℕ
+  below j = firstLeast (frequent rule cells voters) far j
+
   voted : (c : ℕ) → 0 < votes rule cells voters c → votes rule cells voters c ≤ most rule cells voters
   unfolding votes most
   voted c h =
@@ -133,8 +138,8 @@ module _ (rule : Rule) (cells : List ℤ) (voters : List Bool) (own : ℕ) (coun
           omega (arith, w .3))
           (greatest-is (rule .places) (marked voters) (λ q. votes rule cells voters (index (at cells q))))
 
-  choose-nearer : (b : Bool) (c : ℕ) (o : Option ℕ) → cond b (nearer (asTarget far o) c (far c)) (asTarget far o) ≡ asTarget far (choose rule own b c o)
-  unfolding nearer asTarget choose
+  choose-nearer : (b : Bool) (c : ℕ) (o : Option ℕ) → cond b (nearer (asTarget far o) c (far c)) (asTarget far o) ≡ asTarget far (cond b (elim o [ none ↦ some c | some i ↦ some (cond (lt (far c) (far i)) c i) ]) o)
+  unfolding nearer asTarget
   choose-nearer false c o = refl
   choose-nearer true c none = refl
   choose-nearer true c (some b) = case (lt (far c) (far b)) (λ y. rw y) (λ z. rw z)
@@ -146,12 +151,12 @@ module _ (rule : Rule) (cells : List ℤ) (voters : List Bool) (own : ℕ) (coun
       (λ y. both (yes-leb {m = 1} {n = votes rule cells voters c} (let e : votes rule cells voters c ≡ most rule cells voters = eqb-yes y in omega arith)) y)
       (λ y. right (ltb 0 (votes rule cells voters c)) (eqb (votes rule cells voters c) (most rule cells voters)) y)
 
-  nearest-target : (most rule cells voters ≡ 0 → ⊥) → (j : ℕ) → j ≤ k → nearest far counts (most rule cells voters) j ≡ asTarget far (target rule cells own voters j)
-  unfolding nearest target asTarget
+  nearest-target : (most rule cells voters ≡ 0 → ⊥) → (j : ℕ) → j ≤ k → nearest far counts (most rule cells voters) j ≡ asTarget far (below j)
+  unfolding nearest firstLeast asTarget
   nearest-target z zero h = refl
   nearest-target z (suc j) h =
       let i = nearest-target z j (omega arith) in
-      rw (tallied j (omega arith), frequent-is z j, i) (choose-nearer (frequent rule cells voters j) j (target rule cells own voters j))
+      rw (tallied j (omega arith), frequent-is z j, i) (choose-nearer (frequent rule cells voters j) j (below j))
 
   -- with no votes there is no target
   none-frequent : most rule cells voters ≡ 0 → (c : ℕ) → frequent rule cells voters c ≡ false
@@ -164,8 +169,8 @@ module _ (rule : Rule) (cells : List ℤ) (voters : List Bool) (own : ℕ) (coun
       absurd (omega arith))
       (λ u. u)
 
-  none-target : most rule cells voters ≡ 0 → (j : ℕ) → target rule cells own voters j ≡ none
-  unfolding target choose
+  none-target : most rule cells voters ≡ 0 → (j : ℕ) → below j ≡ none
+  unfolding firstLeast
   none-target z zero = refl
   none-target z (suc j) = rw (none-frequent z j) (none-target z j)
 
@@ -178,16 +183,16 @@ module _ (rule : Rule) (cells : List ℤ) (voters : List Bool) (own : ℕ) (coun
   unfolding code judged
   still o e = rw e
 
-  pub choice-is : choice far counts k (rule .reach) ≡ code (judged rule own (target rule cells own voters k))
+  pub choice-is : choice far counts k (rule .reach) ≡ code (judged rule own (below k))
   choice-is =
       case (eqb (most rule cells voters) 0)
       (λ y. sym (choice-none far counts k (peak counts k) (rule .reach) refl (peak-most ∙ eqb-yes y))
-      ∙ still (target rule cells own voters k) (none-target (eqb-yes y) k))
+      ∙ still (below k) (none-target (eqb-yes y) k))
       (λ y. let z : most rule cells voters ≡ 0 → ⊥ = (λ e. clash (yes-eqb {m = most rule cells voters} {n = 0} e) y) in
       sym (choice-some far counts k (peak counts k) (rule .reach) refl (λ e. z (sym peak-most ∙ e)) (nearest far counts (peak counts k) k) refl)
       ∙ ap (λ (x : ℕ). decision (nearest far counts x k) (rule .reach)) peak-most
       ∙ ap (λ (t : Target). decision t (rule .reach)) (nearest-target z k (omega arith))
-      ∙ decision-is (target rule cells own voters k))
+      ∙ decision-is (below k))
 
 -- ---- all votes are for one index
 
@@ -220,18 +225,22 @@ module _ (rule : Rule) (cells : List ℤ) (voters : List Bool) (own c q : ℕ) (
       absurd (z (sym (eqb-yes (right (marked voters (w .0)) (eqb (index (at cells (w .0))) d) (w .2))) ∙ same (w .0) (w .1) m)))
       (λ y. y)
 
-  one-before : (j : ℕ) → j ≤ c → target rule cells own voters j ≡ none
-  unfolding target choose
+  -- the target among the indices below j
+  abbrev first : ℕ → Option ℕ
+  first j = firstLeast (frequent rule cells voters) (rule .dist own) j
+
+  one-before : (j : ℕ) → j ≤ c → first j ≡ none
+  unfolding firstLeast
   one-before zero h = refl
   one-before (suc j) h = rw (other-frequent j (λ e. omega arith)) (one-before j (omega arith))
 
   -- the target is that index
-  pub one-target : (j : ℕ) → c < j → target rule cells own voters j ≡ some c
-  unfolding target choose
+  pub one-target : (j : ℕ) → c < j → first j ≡ some c
+  unfolding firstLeast
   one-target zero h = absurd (omega arith)
   one-target (suc j) h =
       elim (ℕ-discrete j c) [
-        | yes e ↦ rw (e, one-frequent, one-before c (le-refl c))
+        | yes e ↦ rw (e, one-frequent, one-before c (le-refl c)) (ap some e)
         | no d ↦ rw (other-frequent j d) (one-target j (omega arith))
       ]
 

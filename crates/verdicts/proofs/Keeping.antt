@@ -1,16 +1,22 @@
 -- What a poll leaves of the sheet. Assumes nothing.
-use Prim.Native.Nat.{ℕ, zero, suc, _*_, _≤_, _<_}
+use Prim.Native.Nat.{ℕ, zero, suc, _≤_, _<_}
 use mathlib.Core.Path.{_≡_, refl, sym, ap, _∙_}
 use mathlib.Core.List.{List}
 use native.Mathlib.Omega.{arith}
+use Rattle.grid.specs.declared.Grid.{Grid}
 use Rattle.grid.specs.Planes.{plane, endOf}
 use Rattle.grid.proofs.Places.{area}
+use Rattle.verdicts.specs.Steps.{areaOf}
 use Rattle.verdicts.specs.Groups.{Group, GroupedSheet, CanVote}
-use Rattle.verdicts.specs.Polling.{Kept, Polled}
+use Rattle.verdicts.specs.Polling.{MarksOnly, Polled}
 use Rattle.verdicts.proofs.Votes.{large-was}
 
-pub sheet-votes : {h w steps : ℕ} {work : List ℕ} → GroupedSheet h w steps work → CanVote (h * w) work
-sheet-votes {h} {w} b = record { few = area h w (b .rows) (b .cols); room = b .room; paint = b .paint; large = b .large }
+-- a sheet's grid has few cells
+pub sheet-few : {grid : Grid} {work : List ℕ} → GroupedSheet grid work → areaOf grid ≤ 264196
+sheet-few {grid} b = area (grid .h) (grid .w) (b .rows) (b .cols)
+
+pub sheet-votes : {grid : Grid} {work : List ℕ} → GroupedSheet grid work → CanVote (areaOf grid) work
+sheet-votes b = record { few = sheet-few b; room = b .room; paint = b .paint; large = b .large }
 
 -- planes 1 to 3 are as they were
 pub record Alike (n : ℕ) (a b : List ℕ) : Type 0 where
@@ -41,17 +47,17 @@ module _ {n : ℕ} {a b : List ℕ} (u : Alike n a b) where
             (w .0, rw e (w .1), rw f (w .2), u .order (w .0) (omega (arith, w .2, g .end)) ∙ w .3);
       }
 
-pub kept-alike : {n : ℕ} {a b : List ℕ} → Kept n a b → Alike n a b
+pub kept-alike : {n : ℕ} {a b : List ℕ} → MarksOnly n a b → Alike n a b
 kept-alike u = record {
   label = λ q l. u .same 1 q (λ z. absurd (omega arith)) l;
   order = λ q l. u .same 2 q (λ z. absurd (omega arith)) l;
   ends = λ q l. u .same 3 q (λ z. absurd (omega arith)) l;
 }
 
-pub sheet-polled : {h w steps m : ℕ} {A : ℕ → Type 0} {a b counts : List ℕ} → (m ≡ 0 → ⊥) → Polled (h * w) m A a b counts → GroupedSheet h w steps a → GroupedSheet h w steps b
-sheet-polled {h} {w} {b = b} some u d =
+pub sheet-polled : {grid : Grid} {m : ℕ} {A : ℕ → Type 0} {a b counts : List ℕ} → (m ≡ 0 → ⊥) → Polled (areaOf grid) m A a b counts → GroupedSheet grid a → GroupedSheet grid b
+sheet-polled {grid} {b = b} some u d =
     let k = u .kept in
-    let paint : (q : ℕ) → q < h * w → _ = (λ q l. k .same 0 q (λ z. absurd (omega arith)) l) in
+    let paint : (q : ℕ) → q < areaOf grid → _ = (λ q l. k .same 0 q (λ z. absurd (omega arith)) l) in
     record {
       rows = d .rows;
       cols = d .cols;

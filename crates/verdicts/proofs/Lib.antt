@@ -1,4 +1,6 @@
 pub mod Choosing
+pub mod Stepping
+pub mod Spans
 pub mod Votes
 pub mod Agrees
 pub mod Keeping

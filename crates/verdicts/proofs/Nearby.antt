@@ -11,9 +11,10 @@ use native.Mathlib.Omega.{arith}
 use lib.Dec.{eqb, leb}
 use Rattle.base.proofs.Counting.{left, right, leb-yes}
 use Rattle.rules.specs.Grid.{close, eight}
-use Rattle.grid.specs.Steps.{hood}
+use Rattle.grid.specs.declared.Grid.{Grid}
 use Rattle.grid.specs.Planes.{plane}
-use Rattle.grid.proofs.Places.{hood-complete, step-few, hop-eight}
+use Rattle.grid.proofs.Places.{neighbours-complete, step-few, hop-eight}
+use Rattle.verdicts.specs.Steps.{areaOf, adjoins}
 
 -- neighbours are at most a row and a column apart
 record Apart (w p q : ℕ) : Type 0 where
@@ -84,5 +85,7 @@ around-more n w a from i p e u v j lo hi q y = elim (ℕ-discrete j i) [
 ]
 
 -- neighbours in four directions are neighbours in eight
-pub hood-in : (h w steps : ℕ) → (steps ≡ 4) ⊎ (steps ≡ 8) → (p q : ℕ) → q < h * w → hood steps w p q ≡ true → eight w p q ≡ true
-hood-in h w steps ok p q l y = let f = hood-complete steps ok h w p q l y in hop-eight h w p (f .0) q (step-few steps ok (f .0) (f .1)) (f .2)
+pub neighbours-in : (grid : Grid) → (grid .steps ≡ 4) ⊎ (grid .steps ≡ 8) → (p q : ℕ) → q < areaOf grid → adjoins grid p q ≡ true → eight (grid .w) p q ≡ true
+neighbours-in grid ok p q l y =
+    let f = neighbours-complete (grid .steps) ok (grid .h) (grid .w) p q l y in
+    hop-eight (grid .h) (grid .w) p (f .0) q (step-few (grid .steps) ok (f .0) (f .1)) (f .2)

@@ -1,5 +1,5 @@
 -- The verdict on a group, from the votes of its poll. Assumes nothing.
-use Prim.Native.Nat.{ℕ, suc, _+_, _-_, _*_, _≤_, _<_}
+use Prim.Native.Nat.{ℕ, suc, _+_, _-_, _≤_, _<_}
 use mathlib.Core.Path.{_≡_, refl, sym, ap, _∙_}
 use mathlib.Core.Logic.{_⊎_, inl, inr, ⊎-elim}
 use mathlib.Core.Bool.{Bool, true, false, _&&_}
@@ -16,25 +16,29 @@ use Rattle.base.specs.Places.{table, any}
 use Rattle.base.proofs.Counting.{case, clash, both, left, right, not-false, same-test, eqb-yes, yes-eqb, table-at, table-length, any-yes, yes-any, count-same, greatest-is}
 use Rattle.rules.specs.Grid.{eight}
 use Rattle.rules.specs.Regions.{at, opaque, index, Symmetric}
-use Rattle.rules.specs.Pass.{Rule, State, Verdict, stay, merge, freeze, marked, large, view, votes, top, target, judged, merges, freezes, fates, fate}
+use Rattle.rules.specs.Palette.{firstLeast}
+use Rattle.rules.specs.Pass.{Rule, State, Verdict, stay, merge, freeze, marked, large, view, votes, top, frequent, judged, merges, freezes, fates, fate}
 use Rattle.rules.proofs.Roots.{join-same}
 use Rattle.rules.proofs.Passes.{large-opaque, small-or-large}
 use Rattle.rules.proofs.More.{target-past}
 use Rattle.rules.proofs.Frontier.{fronted-start}
 use Rattle.rules.proofs.Groups.{Grouped, waits, groupVerdict, group-rest, group-fates, group-acts, group-large}
-use Rattle.grid.specs.Steps.{hood}
+use Rattle.grid.specs.declared.Grid.{Grid}
 use Rattle.grid.specs.Planes.{plane, cellsOf, endOf}
-use Rattle.grid.proofs.Places.{hood-symmetric}
+use Rattle.grid.proofs.Places.{neighbours-symmetric}
 use Rattle.grid.proofs.Planes.{cells-size, index-is}
+use Rattle.verdicts.specs.declared.Criteria.{Criteria}
+use Rattle.verdicts.specs.declared.large.Span.{Span}
+use Rattle.verdicts.specs.Steps.{areaOf, adjoins}
 use Rattle.verdicts.specs.declared.target.Target.the-variants.{Index}
-use Rattle.verdicts.specs.Choice.{apart, decision, choice}
-use Rattle.verdicts.specs.Polling.{ballot, Polled}
+use Rattle.verdicts.specs.Choice.{entryDistance, decision, choice}
+use Rattle.verdicts.specs.Polling.{ballot, Polled, Beside}
 use Rattle.verdicts.specs.Judging.{ruleOf, stateOf, code, Indexed, largeOf, Sound, Judged}
 use Rattle.verdicts.proofs.Choosing.{peak-none, choice-none, choice-is, one-target, decision-one}
 use Rattle.verdicts.proofs.Agrees.{OnePaint}
 use Rattle.verdicts.specs.Groups.{Group, GroupedSheet}
 use Rattle.verdicts.proofs.Votes.{kept-none, large-then, large-was, tally-new, polled-still}
-use Rattle.verdicts.proofs.Nearby.{hood-in}
+use Rattle.verdicts.proofs.Nearby.{neighbours-in}
 
 -- a waiting place, of a rule that may decide every index
 waits-yes : (rule : Rule) (s : State) (x : ℕ) → large rule (s .cells) x ≡ false → rule .free (index (at (s .cells) x)) ≡ true → marked (s .frozen) x ≡ false → waits rule s x ≡ true
@@ -52,12 +56,18 @@ code-acts stay h e = ⊎-elim (λ y. clash y refl) (λ y. clash y refl) h
 code-acts (merge c d) h e = omega arith
 code-acts (freeze c d) h e = omega arith
 
-module _ (h w steps limit : ℕ) (palette : List Float) (reach : Float) (a : List ℕ) (sheet : GroupedSheet h w steps a) (sound : Sound (ruleOf h w steps limit palette reach) (h * w) a) where
+module _ {grid : Grid} (by : Criteria) (palette : List Float) {a : List ℕ} (sheet : GroupedSheet grid a) (sound : Sound (ruleOf grid by palette) (areaOf grid) a) where
   abbrev n : ℕ
-  n = h * w
+  n = areaOf grid
+
+  abbrev k : ℕ
+  k = by .k
+
+  abbrev reach : Float
+  reach = by .«max_delta»
 
   abbrev rule : Rule
-  rule = ruleOf h w steps limit palette reach
+  rule = ruleOf grid by palette
 
   abbrev s : State
   s = stateOf n a
@@ -69,13 +79,13 @@ module _ (h w steps limit : ℕ) (palette : List Float) (reach : Float) (a : Lis
   group = plane n 1 a
 
   abbrev adj : ℕ → ℕ → Bool
-  adj = hood steps w
+  adj = adjoins grid
 
   sym-rule : Symmetric (rule .adj)
   unfolding ruleOf
-  sym-rule = hood-symmetric steps (sheet .ways) w
+  sym-rule = neighbours-symmetric (grid .steps) (sheet .ways) (grid .w)
 
-  pub grouped : Grouped rule s group
+  grouped : Grouped rule s group
   unfolding ruleOf stateOf
   grouped = record {
     size = cells-size n a;
@@ -86,13 +96,10 @@ module _ (h w steps limit : ℕ) (palette : List Float) (reach : Float) (a : Lis
   }
 
   -- q neighbours a place of the group t
-  abbrev Beside : ℕ → ℕ → Type 0
-  Beside t q = (i : ℕ) × (endOf n a t ≤ i) × (i < endOf n a (suc t)) × (hood steps w (plane n 2 a i) q ≡ true)
+  abbrev Around : ℕ → ℕ → Type 0
+  Around t = Beside grid a (endOf n a t) (endOf n a (suc t))
 
-  pub paints : (q : ℕ) → q < n → (plane n 5 a q ≡ 0 → ⊥) → (1 ≤ plane n 0 a q) × (plane n 0 a q ≤ 256)
-  paints q l z = (sheet .large q l z, sheet .paint q l)
-
-  module _ (t : ℕ) (g : Group n a t) where
+  module _ {t : ℕ} (g : Group n a t) where
     abbrev lead : ℕ
     lead = plane n 2 a (endOf n a t)
 
@@ -124,7 +131,7 @@ module _ (h w steps limit : ℕ) (palette : List Float) (reach : Float) (a : Lis
 
       -- ---- the group is small and has no number
 
-      module _ (free : plane n 6 a t ≡ 0) (little : plane n 5 a lead ≡ 0) (k : ℕ) (inK : (q : ℕ) → q < n → plane n 0 a q ≤ k) where
+      module _ (free : plane n 6 a t ≡ 0) (little : plane n 5 a lead ≡ 0) (known : Indexed n k a) where
         not-large : large rule cells x ≡ false
         unfolding largeOf
         not-large = sym lead-large ∙ sym (sound .flags lead lead-in) ∙ rw little
@@ -146,7 +153,7 @@ module _ (h w steps limit : ℕ) (palette : List Float) (reach : Float) (a : Lis
         voters = table n votesAt
 
         -- who votes is large, and beside a place of the group
-        voter-beside : (q : ℕ) → q < n → votesAt q ≡ true → Beside t q × (plane n 5 a q ≡ 0 → ⊥)
+        voter-beside : (q : ℕ) → q < n → votesAt q ≡ true → Around t q × (plane n 5 a q ≡ 0 → ⊥)
         unfolding largeOf
         voter-beside q l y =
             let p = any-yes n (near q) (right (large rule cells q) (any n (near q)) y) in
@@ -156,7 +163,7 @@ module _ (h w steps limit : ℕ) (palette : List Float) (reach : Float) (a : Lis
               (λ z. clash (left (large rule cells q) (any n (near q)) y) (sym (sound .flags q l) ∙ rw z)),
             )
 
-        beside-voter : (q : ℕ) → q < n → Beside t q → (plane n 5 a q ≡ 0 → ⊥) → votesAt q ≡ true
+        beside-voter : (q : ℕ) → q < n → Around t q → (plane n 5 a q ≡ 0 → ⊥) → votesAt q ≡ true
         unfolding largeOf
         beside-voter q l i z =
             let p = g .places (i .0) (i .1) (i .2) in
@@ -171,7 +178,7 @@ module _ (h w steps limit : ℕ) (palette : List Float) (reach : Float) (a : Lis
         marked-is q l = table-at n votesAt false q l
 
         index-in : (q : ℕ) → q < n → opaque cells q ≡ true → index (at cells q) < k
-        index-in q l o = let e = index-is n a q l o in omega (arith, inK q l)
+        index-in q l o = let e = index-is n a q l o in omega (arith, known .below q l)
 
         top-in : top rule cells ≤ k
         unfolding top ruleOf
@@ -190,7 +197,7 @@ module _ (h w steps limit : ℕ) (palette : List Float) (reach : Float) (a : Lis
             omega arith
 
         -- its fate is the verdict by these voters, with indices below k for targets
-        fate-is : code (judged rule own (target rule cells own voters k)) ≡ code (fate (fates rule s) x)
+        fate-is : code (judged rule own (firstLeast (frequent rule cells voters) (rule .dist own) k)) ≡ code (fate (fates rule s) x)
         unfolding ruleOf stateOf groupVerdict view
         fate-is =
             ap (λ (o : Option ℕ). code (judged rule own o)) (target-past rule (view rule s) voters (λ q lq y. voter-opaque q lq (sym (marked-is q lq) ∙ y)) own k top-in)
@@ -206,7 +213,7 @@ module _ (h w steps limit : ℕ) (palette : List Float) (reach : Float) (a : Lis
             (eqb-yes (left (eqb (group x) (group (p .0))) (adj (p .0) q) (p .2))) (right (eqb (group x) (group (p .0))) (adj (p .0) q) (p .2)) (left (large rule cells q) (any n (near q)) v)) z
 
         -- all voters have one paint: the verdict is by that index
-        pub agreed-fate : (v : ℕ) → OnePaint h w steps (sheet .ways) a paints (endOf n a t) (endOf n a (suc t)) v → decision (Index (v - 1) (apart palette (plane n 0 a lead - 1) (v - 1))) reach ≡ code (fate (fates rule s) x)
+        pub agreed-fate : (v : ℕ) → OnePaint grid a (endOf n a t) (endOf n a (suc t)) v → decision (Index (v - 1) (entryDistance palette (plane n 0 a lead - 1) (v - 1))) reach ≡ code (fate (fates rule s) x)
         unfolding ruleOf
         agreed-fate v u =
             let q = u .place in
@@ -215,14 +222,14 @@ module _ (h w steps limit : ℕ) (palette : List Float) (reach : Float) (a : Lis
             let index-v : (p : ℕ) → p < n → votesAt p ≡ true → index (at cells p) ≡ v - 1 =
             (λ p lp z. let b = voter-beside p lp z in let e = index-is n a p lp (voter-opaque p lp z) in let f = u .same p lp (b .0) (b .1) in omega arith) in
             let below : v - 1 < k = rw (index-v q l y) at (index-in q l (voter-opaque q l y)) in
-            ap (λ (o : ℕ). decision (Index (v - 1) (apart palette o (v - 1))) reach) own-is
+            ap (λ (o : ℕ). decision (Index (v - 1) (entryDistance palette o (v - 1))) reach) own-is
             ∙ decision-one rule own (v - 1)
             ∙ sym (ap (λ (o : Option ℕ). code (judged rule own o)) (one-target rule cells voters own (v - 1) q l (marked-is q l ∙ y) (λ p lp z. index-v p lp (sym (marked-is p lp) ∙ z)) k below))
             ∙ fate-is
 
         -- ---- the poll
 
-        module _ (b counts : List ℕ) (fresh : (q : ℕ) → q < n → plane n 5 a q ≡ t + 2 → ⊥) (polled : Polled n (t + 2) (Beside t) a b counts) where
+        module _ (b counts : List ℕ) (fresh : (q : ℕ) → q < n → plane n 5 a q ≡ t + 2 → ⊥) (polled : Polled n (t + 2) (Around t) a b counts) where
           voter-is : (q : ℕ) → q < n → votesAt q ≡ eqb (plane n 5 b q) (t + 2)
           voter-is q l =
               same-test
@@ -249,11 +256,11 @@ module _ (h w steps limit : ℕ) (palette : List Float) (reach : Float) (a : Lis
               both (sym (voter-is q l) ∙ u) (yes-eqb {m = plane n 0 b q} {n = c + 1} (omega arith)))
 
           -- the verdict is the choice by the counts
-          pub polled-fate : k ≤ 256 → choice (apart palette (plane n 0 a lead - 1)) counts k reach ≡ code (fate (fates rule s) x)
+          pub polled-fate : choice (entryDistance palette (plane n 0 a lead - 1)) counts k reach ≡ code (fate (fates rule s) x)
           unfolding ruleOf
-          polled-fate lk =
-              ap (λ (y : ℕ). choice (apart palette y) counts k reach) own-is
-              ∙ choice-is rule cells voters own counts k (λ c lc. tallied c (omega arith)) (λ q lq y. index-in q lq (voter-opaque q lq (sym (marked-is q lq) ∙ y)))
+          polled-fate =
+              ap (λ (y : ℕ). choice (entryDistance palette y) counts k reach) own-is
+              ∙ choice-is rule cells voters own counts k (λ c lc. tallied c (omega (arith, known .few))) (λ q lq y. index-in q lq (voter-opaque q lq (sym (marked-is q lq) ∙ y)))
               ∙ fate-is
 
           -- a cell that voted decides it
@@ -268,50 +275,46 @@ module _ (h w steps limit : ℕ) (palette : List Float) (reach : Float) (a : Lis
     pub judged-big : (plane n 5 a lead ≡ 0 → ⊥) → Judged rule n t a a 0
     judged-big z = record { kept = kept-none n a; large = λ q l. refl; marks = λ q l. inl refl; done = λ y. refl; little = λ y. absurd (y refl); right = λ y x l e. stays-big x l e z }
 
-    -- one paint is all that large neighbours have; `from`, `to` and `paint` are as they were read
-    pub judged-agreed : (from to : ℕ) → from ≡ endOf n a t → to ≡ endOf n a (suc t) → plane n 6 a t ≡ 0 → plane n 5 a lead ≡ 0 → (k : ℕ) → Indexed n k a → (v : ℕ) → OnePaint h w steps (sheet .ways) a paints from to v →
-        (paint : ℕ) → paint ≡ plane n 0 a lead → (r : ℕ) → r ≡ decision (Index (v - 1) (apart palette (paint - 1) (v - 1))) reach → Judged rule n t a a r
-    judged-agreed from to ef et z y k known v u paint ep r e =
-        record {
-          kept = kept-none n a;
-          large = λ q l. refl;
-          marks = λ q l. inl refl;
-          done = λ x. absurd (x z);
-          little = λ x. y;
-          right = λ q x l i. (rw ep at e) ∙ agreed-fate x l i z y k (known .below) v (rw (ef, et) at u);
-        }
+    -- the group is small and has no number; its places and its paint are as they were read
+    module _ (span : Span) (ends : (span .from ≡ endOf n a t) × (span .to ≡ endOf n a (suc t))) (free : plane n 6 a t ≡ 0) (little : plane n 5 a lead ≡ 0) (known : Indexed n k a) where
+      -- one paint is all that large neighbours have
+      pub judged-agreed : {v : ℕ} → OnePaint grid a (span .from) (span .to) v →
+          {paint : ℕ} → paint ≡ plane n 0 a lead → {r : ℕ} → r ≡ decision (Index (v - 1) (entryDistance palette (paint - 1) (v - 1))) reach → Judged rule n t a a r
+      judged-agreed {v} u ep e =
+          record {
+            kept = kept-none n a;
+            large = λ q l. refl;
+            marks = λ q l. inl refl;
+            done = λ x. absurd (x free);
+            little = λ x. little;
+            right = λ q x l i. (rw ep at e) ∙ agreed-fate x l i free little known v (rw (ends .0, ends .1) at u);
+          }
 
-    pub judged-polled : plane n 6 a t ≡ 0 → plane n 5 a lead ≡ 0 → (k : ℕ) → Indexed n k a → (b counts : List ℕ) → ((q : ℕ) → q < n → plane n 5 a q ≡ t + 2 → ⊥) →
-        Polled n (t + 2) (Beside t) a b counts →
-        (r : ℕ) → r ≡ choice (apart palette (plane n 0 a lead - 1)) counts k reach → Judged rule n t a b r
-    unfolding largeOf
-    judged-polled z y k known b counts fresh u r e =
-        let ne : t + 2 ≡ 0 → ⊥ = (λ x. omega arith) in
-        let right : (x : ℕ) → x < n → group x ≡ suc t → r ≡ code (fate (fates rule s) x) = (λ x l i. e ∙ polled-fate x l i z y k (known .below) b counts fresh u (known .few)) in
-        record {
-          kept = u .kept;
-          large = λ q l. elim (ℕ-discrete (plane n 5 a q) 0) [
-            | yes i ↦ (elim (ℕ-discrete (plane n 5 b q) 0) [ yes j ↦ rw (i, j) | no j ↦ absurd (large-was ne u q l j i) ])
-            | no i ↦ rw (ne-eqb (plane n 5 a q) 0 i, ne-eqb (plane n 5 b q) 0 (large-then ne u q l i))
-          ];
-          marks = λ q l. ⊎-elim inl (λ m. inr (m .0, (λ o. vote-decides lead lead-in lead-label z y k (known .below) b counts fresh u q l (m .0) (sym (right lead lead-in lead-label) ∙ o)))) (u .marks q l);
-          done = λ x. absurd (x z);
-          little = λ x. y;
-          right = λ x. right;
-        }
+      module _ (fresh : (q : ℕ) → q < n → plane n 5 a q ≡ t + 2 → ⊥) where
+        -- they are polled
+        pub judged-polled : {b counts : List ℕ} → Polled n (t + 2) (Beside grid a (span .from) (span .to)) a b counts →
+            {paint : ℕ} → paint ≡ plane n 0 a lead → {r : ℕ} → r ≡ choice (entryDistance palette (paint - 1)) counts k reach → Judged rule n t a b r
+        unfolding largeOf
+        judged-polled {b} {counts} polled ep {r} e =
+            let ne : t + 2 ≡ 0 → ⊥ = (λ x. omega arith) in
+            let u : Polled n (t + 2) (Around t) a b counts = rw (ends .0, ends .1) at polled in
+            let right : (x : ℕ) → x < n → group x ≡ suc t → r ≡ code (fate (fates rule s) x) = (λ x l i. (rw ep at e) ∙ polled-fate x l i free little known b counts fresh u) in
+            record {
+              kept = u .kept;
+              large = λ q l. elim (ℕ-discrete (plane n 5 a q) 0) [
+                | yes i ↦ (elim (ℕ-discrete (plane n 5 b q) 0) [ yes j ↦ rw (i, j) | no j ↦ absurd (large-was ne u q l j i) ])
+                | no i ↦ rw (ne-eqb (plane n 5 a q) 0 i, ne-eqb (plane n 5 b q) 0 (large-then ne u q l i))
+              ];
+              marks = λ q l. ⊎-elim inl (λ m. inr (m .0, (λ o. vote-decides lead lead-in lead-label free little known b counts fresh u q l (m .0) (sym (right lead lead-in lead-label) ∙ o)))) (u .marks q l);
+              done = λ x. absurd (x free);
+              little = λ x. little;
+              right = λ x. right;
+            }
 
-    -- the same with the ends and the paint as they were read
-    pub judged-at : (from to : ℕ) → from ≡ endOf n a t → to ≡ endOf n a (suc t) → plane n 6 a t ≡ 0 → plane n 5 a lead ≡ 0 → (k : ℕ) → Indexed n k a → (b counts : List ℕ) → ((q : ℕ) → q < n → plane n 5 a q ≡ t + 2 → ⊥) →
-        Polled n (t + 2) (λ q. (i : ℕ) × (from ≤ i) × (i < to) × (hood steps w (plane n 2 a i) q ≡ true)) a b counts →
-        (paint : ℕ) → paint ≡ plane n 0 a lead → (r : ℕ) → r ≡ choice (apart palette (paint - 1)) counts k reach → Judged rule n t a b r
-    judged-at from to ef et z y k known b counts fresh u paint ep r e =
-        judged-polled z y k known b counts fresh (rw (ef, et) at u) r (rw ep at e)
-
-    -- no neighbour is large: the poll would change nothing
-    pub judged-silent : (from to : ℕ) → from ≡ endOf n a t → to ≡ endOf n a (suc t) → plane n 6 a t ≡ 0 → plane n 5 a lead ≡ 0 → (k : ℕ) → Indexed n k a → ((q : ℕ) → q < n → plane n 5 a q ≡ t + 2 → ⊥) →
-        ((i : ℕ) → from ≤ i → i < to → (q : ℕ) → eight w (plane n 2 a i) q ≡ true → plane n 5 a q ≡ 0) → Judged rule n t a a 0
-    judged-silent from to ef et z y k known fresh none =
-        judged-at from to ef et z y k known a (replicate 256 0) fresh
-        (polled-still n (t + 2) (λ x. omega arith) a (replicate 256 0) (tally-new n (t + 2) a fresh)
-        (λ q l b large. absurd (large (none (b .0) (b .1) (b .2) q (hood-in h w steps (sheet .ways) (plane n 2 a (b .0)) q l (b .3))))))
-        (plane n 0 a lead) refl 0 (choice-none _ (replicate 256 0) k 0 reach (peak-none k (known .few)) refl)
+        -- no neighbour is large: the poll would change nothing
+        pub judged-silent : ((i : ℕ) → span .from ≤ i → i < span .to → (q : ℕ) → eight (grid .w) (plane n 2 a i) q ≡ true → plane n 5 a q ≡ 0) → Judged rule n t a a 0
+        judged-silent none =
+            judged-polled
+            (polled-still n (t + 2) (λ x. omega arith) a (replicate 256 0) (tally-new n (t + 2) a fresh)
+            (λ q l b large. absurd (large (none (b .0) (b .1) (b .2) q (neighbours-in grid (sheet .ways) (plane n 2 a (b .0)) q l (b .3))))))
+            refl (choice-none _ (replicate 256 0) k 0 reach (peak-none k (known .few)) refl)

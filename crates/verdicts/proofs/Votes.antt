@@ -14,11 +14,13 @@ use lib.ListN.{length, getD, set, length-set, replicate, length-replicate, getD-
 use lib.Seq.{getD-set-same, getD-set-other}
 use Rattle.base.specs.Places.{count}
 use Rattle.base.proofs.Counting.{clash, left, eqb-yes, yes-eqb, count-same, count-insert, count-le, count-none}
+use Rattle.grid.specs.declared.Grid.{Grid}
 use Rattle.grid.specs.Planes.{plane}
-use Rattle.grid.specs.Steps.{hood}
-use Rattle.grid.proofs.Places.{hop, some-inj, none-some, hood-sound, hood-complete}
+use Rattle.grid.proofs.Places.{hop, some-inj, none-some, neighbours-sound, neighbours-complete}
 use Rattle.grid.proofs.Planes.{plane-same, plane-else, plane-other}
-use Rattle.verdicts.specs.Polling.{ballot, Tallied, Kept, Polled}
+use Rattle.verdicts.specs.Steps.{areaOf, adjoins}
+use Rattle.verdicts.specs.Polling.{ballot, Tallied, MarksOnly, Polled, Beside}
+use Rattle.verdicts.proofs.Spans.{within-more, more-within}
 
 -- a count is at most the number of cells
 pub tally-le : {n m : ℕ} {work counts : List ℕ} → Tallied n work m counts → (c : ℕ) → c < 256 → getD counts c 0 ≤ n
@@ -26,13 +28,13 @@ tally-le {n = n} t c l = rw (t .votes c l) (count-le n _)
 
 -- ---- what a poll keeps
 
-pub kept-none : (n : ℕ) (a : List ℕ) → Kept n a a
+pub kept-none : (n : ℕ) (a : List ℕ) → MarksOnly n a a
 kept-none n a = record { len = refl; same = λ j q l h. refl }
 
-pub kept-and : {n : ℕ} {a b c : List ℕ} → Kept n a b → Kept n b c → Kept n a c
+pub kept-and : {n : ℕ} {a b c : List ℕ} → MarksOnly n a b → MarksOnly n b c → MarksOnly n a c
 kept-and u v = record { len = v .len ∙ u .len; same = λ j q l h. v .same j q l h ∙ u .same j q l h }
 
-kept-store : (n p i v : ℕ) (a : List ℕ) → i ≡ 5 * n + p → p < n → Kept n a (set a i v)
+kept-store : (n p i v : ℕ) (a : List ℕ) → i ≡ 5 * n + p → p < n → MarksOnly n a (set a i v)
 kept-store n p i v a e h = record { len = length-set a i v; same = λ k q z lq. plane-other n 5 p i a v e k q z h lq }
 
 -- a place is large after a poll exactly if it was
@@ -96,7 +98,7 @@ module _ (n m : ℕ) (nonzero : m ≡ 0 → ⊥) where
       abbrev more : List ℕ
       more = set counts c (getD counts c 0 + 1)
 
-      kept : Kept n a after
+      kept : MarksOnly n a after
       kept = kept-store n q i m a e lq
 
       here : plane n 5 after q ≡ m
@@ -154,44 +156,45 @@ module _ (n m : ℕ) (nonzero : m ≡ 0 → ⊥) where
 -- ---- the neighbours of a place, step by step
 
 -- one of the first k steps from p leads to q
-abbrev pub Reached : ℕ → ℕ → ℕ → ℕ → ℕ → Type 0
-Reached h w p k q = (i : ℕ) × (i < k) × (hop h w p i ≡ some q)
+abbrev pub Reached : Grid → ℕ → ℕ → ℕ → Type 0
+Reached grid p k q = (i : ℕ) × (i < k) × (hop (grid .h) (grid .w) p i ≡ some q)
 
-module _ (h w steps m p : ℕ) (nonzero : m ≡ 0 → ⊥) where
-  pub reach-start : (a counts : List ℕ) → Tallied (h * w) a m counts → Polled (h * w) m (Reached h w p 0) a a counts
+module _ (grid : Grid) (p k : ℕ) {q : ℕ} where
+  -- one step more
+  pub reached-more : Reached grid p (k + 1) q → Reached grid p k q ⊎ (hop (grid .h) (grid .w) p k ≡ some q)
+  reached-more z = elim (ℕ-discrete (z .0) k) [ yes e ↦ inr (rw e at (z .2)) | no d ↦ inl (z .0, omega (arith, z .1), z .2) ]
+
+  pub more-reached : Reached grid p k q ⊎ (hop (grid .h) (grid .w) p k ≡ some q) → Reached grid p (k + 1) q
+  more-reached = ⊎-elim (λ z. (z .0, omega (arith, z .1), z .2)) (λ z. (k, omega arith, z))
+
+  -- all steps lead to the neighbours
+  pub reached-all : (grid .steps ≡ 4) ⊎ (grid .steps ≡ 8) → k ≤ grid .steps → Reached grid p k q → adjoins grid p q ≡ true
+  reached-all ok l z = neighbours-sound (grid .steps) ok (grid .h) (grid .w) p (z .0) q (omega (arith, z .1)) (z .2)
+
+  pub all-reached : (grid .steps ≡ 4) ⊎ (grid .steps ≡ 8) → grid .steps ≤ k → q < areaOf grid → adjoins grid p q ≡ true → Reached grid p k q
+  all-reached ok l b y = let z = neighbours-complete (grid .steps) ok (grid .h) (grid .w) p q b y in (z .0, omega (arith, z .1), z .2)
+
+module _ (grid : Grid) (m p : ℕ) (nonzero : m ≡ 0 → ⊥) where
+  pub reach-start : (a counts : List ℕ) → Tallied (areaOf grid) a m counts → Polled (areaOf grid) m (Reached grid p 0) a a counts
   reach-start a counts t =
-      polled-same (h * w) m nonzero (λ q l z. absurd z) (λ q l z. absurd (not-suc-le-zero (z .1))) (polled-none (h * w) m nonzero a counts t)
+      polled-same (areaOf grid) m nonzero (λ q l z. absurd z) (λ q l z. absurd (not-suc-le-zero (z .1))) (polled-none (areaOf grid) m nonzero a counts t)
 
-  pub reach-on : {a b c : List ℕ} (counts counts′ : List ℕ) (k : ℕ) → Polled (h * w) m (Reached h w p k) a b counts → Polled (h * w) m (λ q. hop h w p k ≡ some q) b c counts′ → Polled (h * w) m (Reached h w p (k + 1)) a c counts′
-  reach-on {a} {b} counts counts′ k u v =
-      polled-same (h * w) m nonzero
-      (λ q l. ⊎-elim (λ z. (z .0, omega (arith, z .1), z .2)) (λ z. (k, omega arith, z)))
-      (λ q l z. elim (ℕ-discrete (z .0) k) [ yes e ↦ inr (rw e at (z .2)) | no e ↦ inl (z .0, omega (arith, z .1), z .2) ])
-      (polled-and (h * w) m nonzero counts counts′ u v)
+  pub reach-on : {a b c : List ℕ} (counts counts′ : List ℕ) (k : ℕ) → Polled (areaOf grid) m (Reached grid p k) a b counts → Polled (areaOf grid) m (λ q. hop (grid .h) (grid .w) p k ≡ some q) b c counts′ → Polled (areaOf grid) m (Reached grid p (k + 1)) a c counts′
+  reach-on counts counts′ k u v = polled-same (areaOf grid) m nonzero (λ q l. more-reached grid p k) (λ q l. reached-more grid p k) (polled-and (areaOf grid) m nonzero counts counts′ u v)
 
-  pub reach-all : {a b counts : List ℕ} (k : ℕ) → (steps ≡ 4) ⊎ (steps ≡ 8) → steps ≡ k → Polled (h * w) m (Reached h w p k) a b counts → Polled (h * w) m (λ q. hood steps w p q ≡ true) a b counts
-  reach-all k ok e u =
-      polled-same (h * w) m nonzero
-      (λ q l z. hood-sound steps ok h w p (z .0) q (omega (arith, z .1)) (z .2))
-      (λ q l y. let z = hood-complete steps ok h w p q l y in (z .0, omega (arith, z .1), z .2)) u
+  pub reach-all : {a b counts : List ℕ} (k : ℕ) → (grid .steps ≡ 4) ⊎ (grid .steps ≡ 8) → grid .steps ≡ k → Polled (areaOf grid) m (Reached grid p k) a b counts → Polled (areaOf grid) m (λ q. adjoins grid p q ≡ true) a b counts
+  reach-all k ok e u = polled-same (areaOf grid) m nonzero (λ q l. reached-all grid p k ok (omega arith)) (λ q l. all-reached grid p k ok (omega arith) l) u
 
 -- ---- the neighbours of the places of a run, place by place
 
--- q neighbours one of the places from `from` on and before `to`
-abbrev pub Beside : ℕ → ℕ → ℕ → List ℕ → ℕ → ℕ → ℕ → Type 0
-Beside h w steps a from to q = (i : ℕ) × (from ≤ i) × (i < to) × (hood steps w (plane (h * w) 2 a i) q ≡ true)
-
-module _ (h w steps m from : ℕ) (nonzero : m ≡ 0 → ⊥) where
-  pub beside-start : (a counts : List ℕ) → Tallied (h * w) a m counts → Polled (h * w) m (Beside h w steps a from from) a a counts
+module _ (grid : Grid) (m from : ℕ) (nonzero : m ≡ 0 → ⊥) where
+  pub beside-start : (a counts : List ℕ) → Tallied (areaOf grid) a m counts → Polled (areaOf grid) m (Beside grid a from from) a a counts
   beside-start a counts t =
-      polled-same (h * w) m nonzero (λ q l z. absurd z) (λ q l z. absurd (omega (arith, z .1, z .2))) (polled-none (h * w) m nonzero a counts t)
+      polled-same (areaOf grid) m nonzero (λ q l z. absurd z) (λ q l z. absurd (omega (arith, z .1, z .2))) (polled-none (areaOf grid) m nonzero a counts t)
 
-  pub beside-on : {a b c : List ℕ} (counts counts′ : List ℕ) (to p : ℕ) → from ≤ to → p ≡ plane (h * w) 2 a to → Polled (h * w) m (Beside h w steps a from to) a b counts → Polled (h * w) m (λ q. hood steps w p q ≡ true) b c counts′ → Polled (h * w) m (Beside h w steps a from (to + 1)) a c counts′
-  beside-on {a} {b} counts counts′ to p le e u v =
-      polled-same (h * w) m nonzero
-      (λ q l. ⊎-elim (λ z. (z .0, z .1, omega (arith, z .2), z .3)) (λ z. (to, le, omega arith, rw e at z)))
-      (λ q l z. elim (ℕ-discrete (z .0) to) [ yes f ↦ inr (rw (e, ← f) (z .3)) | no f ↦ inl (z .0, z .1, omega (arith, z .2), z .3) ])
-      (polled-and (h * w) m nonzero counts counts′ u v)
+  pub beside-on : {a b c : List ℕ} (counts counts′ : List ℕ) (to p : ℕ) → from ≤ to → p ≡ plane (areaOf grid) 2 a to → Polled (areaOf grid) m (Beside grid a from to) a b counts → Polled (areaOf grid) m (λ q. adjoins grid p q ≡ true) b c counts′ → Polled (areaOf grid) m (Beside grid a from (to + 1)) a c counts′
+  beside-on counts counts′ to p le e u v =
+      polled-same (areaOf grid) m nonzero (λ q l z. more-within le z) (λ q l z. within-more z) (polled-and (areaOf grid) m nonzero counts counts′ u (rw e at v))
 
 -- ---- before the first vote
 

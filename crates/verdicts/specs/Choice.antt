@@ -11,8 +11,8 @@ use Rattle.verdicts.specs.declared.target.Target.{Target}
 use Rattle.verdicts.specs.declared.target.Target.the-variants.{Nothing, Index}
 
 -- the distance of the palette entries i and j
-unfoldable pub apart : List Float → ℕ → ℕ → Float
-apart palette i j = distance (entry palette i) (entry palette j)
+unfoldable pub entryDistance : List Float → ℕ → ℕ → Float
+entryDistance palette i j = distance (entry palette i) (entry palette j)
 
 -- the most votes that an index below k has
 unfoldable pub peak : List ℕ → ℕ → ℕ

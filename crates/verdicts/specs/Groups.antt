@@ -6,7 +6,10 @@ use mathlib.Core.Path.{_≡_}
 use mathlib.Core.Logic.{_⊎_}
 use mathlib.Core.List.{List}
 use lib.ListN.{length}
+use Rattle.grid.specs.declared.Grid.{Grid}
 use Rattle.grid.specs.Planes.{plane, endOf}
+use Rattle.verdicts.specs.declared.large.Span.{Span}
+use Rattle.verdicts.specs.Steps.{areaOf}
 
 -- the places with the label at + 1 stand in the order from endOf at on and before endOf (at + 1)
 pub record Group (n : ℕ) (work : List ℕ) (at : ℕ) : Type 0 where
@@ -16,16 +19,22 @@ pub record Group (n : ℕ) (work : List ℕ) (at : ℕ) : Type 0 where
   pub places : (i : ℕ) → endOf n work at ≤ i → i < endOf n work (suc at) → (plane n 2 work i < n) × (plane n 1 work (plane n 2 work i) ≡ suc at)
   pub all : (p : ℕ) → p < n → plane n 1 work p ≡ suc at → (i : ℕ) × (endOf n work at ≤ i) × (i < endOf n work (suc at)) × (plane n 2 work i ≡ p)
 
--- the work area holds a sheet of h rows of w cells, all indices below 256; its places stand in groups, and large places are opaque
-pub record GroupedSheet (h w steps : ℕ) (work : List ℕ) : Type 0 where
-  pub rows : h ≤ 514
-  pub cols : w ≤ 514
-  pub ways : (steps ≡ 4) ⊎ (steps ≡ 8)
-  pub room : 8 * (h * w) ≤ length work
-  pub paint : (q : ℕ) → q < h * w → plane (h * w) 0 work q ≤ 256
-  pub shown : (q : ℕ) → q < h * w → (plane (h * w) 1 work q ≡ 0 → ⊥) → 1 ≤ plane (h * w) 0 work q
-  pub large : (q : ℕ) → q < h * w → (plane (h * w) 5 work q ≡ 0 → ⊥) → 1 ≤ plane (h * w) 0 work q
-  pub groups : (q at : ℕ) → q < h * w → plane (h * w) 1 work q ≡ suc at → Group (h * w) work at
+-- a span of the order: its end comes after its beginning and within the order, and it holds places
+pub record Stretch (n : ℕ) (work : List ℕ) (span : Span) : Type 0 where
+  pub rises : span .from ≤ span .to
+  pub end : span .to ≤ n
+  pub places : (i : ℕ) → span .from ≤ i → i < span .to → plane n 2 work i < n
+
+-- the work area holds a sheet on the grid, all indices below 256; its places stand in groups, and large places are opaque
+pub record GroupedSheet (grid : Grid) (work : List ℕ) : Type 0 where
+  pub rows : grid .h ≤ 514
+  pub cols : grid .w ≤ 514
+  pub ways : (grid .steps ≡ 4) ⊎ (grid .steps ≡ 8)
+  pub room : 8 * areaOf grid ≤ length work
+  pub paint : (q : ℕ) → q < areaOf grid → plane (areaOf grid) 0 work q ≤ 256
+  pub shown : (q : ℕ) → q < areaOf grid → (plane (areaOf grid) 1 work q ≡ 0 → ⊥) → 1 ≤ plane (areaOf grid) 0 work q
+  pub large : (q : ℕ) → q < areaOf grid → (plane (areaOf grid) 5 work q ≡ 0 → ⊥) → 1 ≤ plane (areaOf grid) 0 work q
+  pub groups : (q at : ℕ) → q < areaOf grid → plane (areaOf grid) 1 work q ≡ suc at → Group (areaOf grid) work at
 
 -- of this, what a single cell's vote asks
 pub record CanVote (n : ℕ) (work : List ℕ) : Type 0 where

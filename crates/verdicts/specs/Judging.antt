@@ -1,5 +1,5 @@
 -- The verdict on one region, on the planes of the work area: the rule and the state that they stand for. Definitions only. Assumes nothing.
-use Prim.Native.Nat.{ℕ, suc, _+_, _*_, _≤_, _<_}
+use Prim.Native.Nat.{ℕ, suc, _+_, _≤_, _<_}
 use mathlib.Core.Path.{_≡_}
 use mathlib.Core.Logic.{_⊎_, _↔_}
 use mathlib.Core.Bool.{Bool, true, false, not}
@@ -10,21 +10,23 @@ use lib.Ieee.{Float}
 use Rattle.base.specs.Places.{table}
 use Rattle.rules.specs.Regions.{opaque, Joined}
 use Rattle.rules.specs.Pass.{Rule, State, Verdict, stay, merge, freeze, marked, small, large, fates, fate}
-use Rattle.grid.specs.Steps.{hood}
+use Rattle.grid.specs.declared.Grid.{Grid}
 use Rattle.grid.specs.Planes.{plane, cellsOf, endOf}
-use Rattle.verdicts.specs.Choice.{apart}
-use Rattle.verdicts.specs.Polling.{Kept}
+use Rattle.verdicts.specs.declared.Criteria.{Criteria}
+use Rattle.verdicts.specs.Steps.{areaOf, adjoins}
+use Rattle.verdicts.specs.Choice.{entryDistance}
+use Rattle.verdicts.specs.Polling.{MarksOnly}
 
--- what a pass goes by on h rows of w cells: 4 or 8 steps, the region limit, the palette and the colour limit
-unfoldable pub ruleOf : ℕ → ℕ → ℕ → ℕ → List Float → Float → Rule
-ruleOf h w steps limit palette reach =
+-- what a pass goes by on a grid, with these criteria and this palette
+unfoldable pub ruleOf : Grid → Criteria → List Float → Rule
+ruleOf grid by palette =
     record {
-      places = h * w;
-      adj = hood steps w;
-      limit = pos limit;
+      places = areaOf grid;
+      adj = adjoins grid;
+      limit = pos (by .limit);
       free = λ i. true;
-      dist = apart palette;
-      reach = reach;
+      dist = entryDistance palette;
+      reach = by .«max_delta»;
     }
 
 -- the sheet of plane 0 with the frozen cells of plane 4
@@ -46,6 +48,10 @@ pub record Indexed (n k : ℕ) (work : List ℕ) : Type 0 where
 unfoldable pub largeOf : ℕ → List ℕ → ℕ → Bool
 largeOf n work q = not (eqb (plane n 5 work q) 0)
 
+-- no place has the mark of a group without a number
+abbrev pub Unmarked : ℕ → List ℕ → ℕ → Type 0
+Unmarked n work at = plane n 6 work at ≡ 0 → (q : ℕ) → q < n → plane n 5 work q ≡ at + 2 → ⊥
+
 -- The planes are sound: a small region is a group, and a group is frozen as a whole; plane 5 tells the large places; a group without a number is not frozen, nor is a place without a group
 pub record Sound (rule : Rule) (n : ℕ) (work : List ℕ) : Type 0 where
   pub region : (x y : ℕ) → small rule (cellsOf n work) x ≡ true → y < n → Joined (rule .adj) (cellsOf n work) x y ↔ (plane n 1 work x ≡ plane n 1 work y)
@@ -57,7 +63,7 @@ pub record Sound (rule : Rule) (n : ℕ) (work : List ℕ) : Type 0 where
 
 -- a group is judged: if it has no number, the answer is that of its fate at each of its places, else 0; only marks are written, and large places stay so
 pub record Judged (rule : Rule) (n at : ℕ) (a b : List ℕ) (r : ℕ) : Type 0 where
-  pub kept : Kept n a b
+  pub kept : MarksOnly n a b
   pub large : (q : ℕ) → q < n → largeOf n b q ≡ largeOf n a q
   -- a mark of this group stands only if it is decided
   pub marks : (q : ℕ) → q < n → (plane n 5 b q ≡ plane n 5 a q) ⊎ ((plane n 5 b q ≡ at + 2) × (r ≡ 0 → ⊥))

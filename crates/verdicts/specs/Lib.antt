@@ -1,3 +1,4 @@
+pub mod Steps
 pub mod Choice
 pub mod Groups
 pub mod Polling

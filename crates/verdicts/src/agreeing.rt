@@ -1,16 +1,16 @@
 // Whether all large cells beside a region have one paint: that is its target then, and no votes need be counted.
+use crate::large::Span;
+use crate::step_count;
+use grid::Grid;
+use grid::Move;
 use grid::OFFSETS8;
 use grid::Step;
-use grid::on_border;
+use grid::on_edge;
 use grid::reached;
 ghost use mathlib.Core.Path.{_≡_};
-ghost use mathlib.Core.Bool.{false};
-ghost use Prim.Native.Nat.{ℕ, _-_, _*_, _/_, _%_, _≤_, _<_};
-ghost use lib.ListN.{length};
-ghost use Rattle.rules.specs.Grid.{stepTo};
-ghost use Rattle.grid.specs.Steps.{Single, Inner};
-ghost use Rattle.grid.specs.Planes.{plane};
-ghost use Rattle.verdicts.specs.Groups.{GroupedSheet};
+ghost use Prim.Native.Nat.{_-_, _<_};
+ghost use Rattle.verdicts.specs.Steps.{areaOf, landing, OneStep};
+ghost use Rattle.verdicts.specs.Groups.{Stretch, GroupedSheet};
 ghost use Rattle.verdicts.specs.Agreeing.{joined, asked, askedBeside, askedAround, onePaint};
 
 // More than every paint: the cells asked so far have several.
@@ -30,22 +30,12 @@ fn join(so_far: u32, paint: u32) -> u32
 }
 
 // The cell that a step from p finds is asked.
-fn ask_step(
-    work: &[u32],
-    h: usize,
-    w: usize,
-    p: usize,
-    dy: i32,
-    dx: i32,
-    border: bool,
-    so_far: u32,
-) -> u32
-    requires { ⌜ (p < h * w) × (h ≤ 514) × (w ≤ 514) × (8 * (h * w) ≤ length (now work)) ⌝ }
-    requires { ⌜ Single dy × Single dx × (border ≡ false → Inner h w p) ⌝ }
-    ensures { λ r. ⌜ r ≡ asked (h * w) (now (work .entry)) (stepTo h w (p / w) (p % w) dy dx) «so_far» ⌝ }
+fn ask_step(work: &[u32], grid: Grid, step: Move, so_far: u32) -> u32
+    requires { ⌜ GroupedSheet grid (now work) × OneStep grid step ⌝ }
+    ensures { λ r. ⌜ r ≡ asked (areaOf grid) (now (work .entry)) (landing grid step) «so_far» ⌝ }
 {
-    let n = h * w;
-    let Step::Cell(q) = reached(p, dy, dx, border, h, w) else {
+    let n = grid.h * grid.w;
+    let Step::Cell(q) = reached(step.p, step.dy, step.dx, step.border, grid.h, grid.w) else {
         return so_far;
     };
     if work[5 * n + q] == 0 {
@@ -55,31 +45,36 @@ fn ask_step(
 }
 
 // The neighbours of the cell p are asked.
-fn ask_beside(work: &[u32], h: usize, w: usize, steps: usize, p: usize, so_far: u32) -> u32
-    requires { ⌜ GroupedSheet h w steps (now work) × (p < h * w) ⌝ }
-    ensures { λ r. ⌜ r ≡ askedBeside h w (now (work .entry)) p steps «so_far» ⌝ }
+fn ask_beside(work: &[u32], grid: Grid, p: usize, so_far: u32) -> u32
+    requires { ⌜ GroupedSheet grid (now work) × (p < areaOf grid) ⌝ }
+    ensures { λ r. ⌜ r ≡ askedBeside grid (now (work .entry)) p (grid .steps) «so_far» ⌝ }
 {
-    let border = on_border(p, h, w);
+    let border = on_edge(p, grid.h, grid.w);
     let offsets = OFFSETS8;
+    let steps = step_count(grid);
     let mut found = so_far;
-    for s in 0..steps {
+    for s in 0..8 {
+        if s == steps {
+            return found;
+        }
         let o = offsets[s];
-        found = ask_step(work, h, w, p, o[0], o[1], border, found);
+        let dy = o[0];
+        let dx = o[1];
+        found = ask_step(work, grid, Move { p, dy, dx, border }, found);
     }
     found
 }
 
-// The paint of all large cells beside the places from `from` on and before `to` of the order; 0 if there is none, or several.
-pub fn agreed(work: &[u32], h: usize, w: usize, steps: usize, from: usize, to: usize) -> u32
-    requires { ⌜ GroupedSheet h w steps (now work) ⌝ }
-    requires { ⌜ (from ≤ to) × (to ≤ h * w) × ((i : ℕ) → from ≤ i → i < to → plane (h * w) 2 (now work) i < h * w) ⌝ }
-    ensures { λ r. ⌜ r ≡ onePaint (askedAround h w steps (now (work .entry)) from (to - from)) ⌝ }
+// The paint of all large cells beside the places of a span; 0 if there is none, or several.
+pub fn agreed(work: &[u32], grid: Grid, span: Span) -> u32
+    requires { ⌜ GroupedSheet grid (now work) × Stretch (areaOf grid) (now work) span ⌝ }
+    ensures { λ r. ⌜ r ≡ onePaint (askedAround grid (now (work .entry)) (span .from) (span .to - span .from)) ⌝ }
 {
-    let n = h * w;
+    let n = grid.h * grid.w;
     let mut found = 0;
-    for i in from..to {
+    for i in span.from..span.to {
         let p = work[2 * n + i] as usize;
-        found = ask_beside(work, h, w, steps, p, found);
+        found = ask_beside(work, grid, p, found);
     }
     if found == SEVERAL {
         return 0;

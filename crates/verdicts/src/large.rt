@@ -5,7 +5,7 @@ ghost use Prim.Native.Nat.{ℕ, suc, _+_, _-_, _*_, _≤_, _<_};
 ghost use lib.ListN.{length};
 ghost use Rattle.rules.specs.Grid.{eight};
 ghost use Rattle.grid.specs.Planes.{plane, endOf};
-ghost use Rattle.verdicts.specs.Groups.{Group};
+ghost use Rattle.verdicts.specs.Groups.{Group, Stretch};
 
 // Where the places of the regions up to a label end in the order.
 fn region_end(work: &[u32], n: usize, label: usize) -> u32
@@ -90,13 +90,12 @@ fn large_near(work: &[u32], n: usize, w: usize, p: usize) -> bool
     large_in_row(work, n, below)
 }
 
-// Whether a large cell may be beside one of the places from `from` on and before `to` of the order.
-pub fn large_around(work: &[u32], n: usize, w: usize, from: usize, to: usize) -> bool
-    requires { ⌜ (8 * n ≤ length (now work)) × (n ≤ 264196) × (w ≤ 514) × (from ≤ to) × (to ≤ n) ⌝ }
-    requires { ⌜ ((i : ℕ) → from ≤ i → i < to → plane n 2 (now work) i < n) ⌝ }
-    ensures { λ r. ⌜ (r ≡ false → (i : ℕ) → from ≤ i → i < to → (q : ℕ) → eight w (plane n 2 (now (work .entry)) i) q ≡ true → plane n 5 (now (work .entry)) q ≡ 0) ⌝ }
+// Whether a large cell may be beside one of the places of a span.
+pub fn large_around(work: &[u32], n: usize, w: usize, span: Span) -> bool
+    requires { ⌜ (8 * n ≤ length (now work)) × (n ≤ 264196) × (w ≤ 514) × Stretch n (now work) span ⌝ }
+    ensures { λ r. ⌜ (r ≡ false → (i : ℕ) → span .from ≤ i → i < span .to → (q : ℕ) → eight w (plane n 2 (now (work .entry)) i) q ≡ true → plane n 5 (now (work .entry)) q ≡ 0) ⌝ }
 {
-    for i in from..to {
+    for i in span.from..span.to {
         let p = work[2 * n + i] as usize;
         if large_near(work, n, w, p) {
             return true;

@@ -9,35 +9,43 @@ use crate::large::large_around;
 use crate::target::choice;
 use crate::target::only_choice;
 use crate::voting::poll;
+use grid::Grid;
 pub use large::Span;
 pub use large::region_size;
 pub use large::region_span;
 ghost use mathlib.Core.Path.{_≡_};
-ghost use Prim.Native.Nat.{ℕ, _+_, _*_, _<_};
+ghost use mathlib.Core.Logic.{_⊎_};
 ghost use lib.ListN.{length};
-ghost use Rattle.grid.specs.Planes.{plane};
+ghost use Rattle.verdicts.specs.Steps.{areaOf};
 ghost use Rattle.verdicts.specs.Groups.{Group, GroupedSheet};
-ghost use Rattle.verdicts.specs.Judging.{ruleOf, Indexed, Sound, Judged};
+ghost use Rattle.verdicts.specs.Judging.{ruleOf, Indexed, Unmarked, Sound, Judged};
+
+// What a verdict goes by: the entries of the palette that are in use, the region limit and the colour limit.
+pub struct Criteria {
+    pub k: usize,
+    pub limit: u32,
+    pub max_delta: f64,
+}
+
+// How many of the eight steps lead from a cell to its neighbours. By the test the compiler sees that it is 4 or 8.
+pub fn step_count(grid: Grid) -> usize
+    requires { ⌜ (grid .steps ≡ 4) ⊎ (grid .steps ≡ 8) ⌝ }
+    ensures { λ r. ⌜ r ≡ grid .steps ⌝ }
+{
+    if grid.steps == 4 {
+        return 4;
+    }
+    8
+}
 
 // The verdict on the region with the label at + 1: 0 it stays, 1 it is frozen, c + 2 it takes the index c.
-pub fn verdict(
-    work: &mut [u32],
-    h: usize,
-    w: usize,
-    steps: usize,
-    palette: &[f64],
-    k: usize,
-    limit: u32,
-    max_delta: f64,
-    at: usize,
-) -> u32
-    requires { ⌜ GroupedSheet h w steps (now work) × Group (h * w) (now work) at ⌝ }
-    requires { ⌜ Indexed (h * w) k (now work) × (length (now palette) ≡ 768) ⌝ }
-    requires { ⌜ Sound (ruleOf h w steps limit (now palette) «max_delta») (h * w) (now work) ⌝ }
-    requires { ⌜ (plane (h * w) 6 (now work) at ≡ 0 → (q : ℕ) → q < h * w → plane (h * w) 5 (now work) q ≡ at + 2 → ⊥) ⌝ }
-    ensures { λ r. ⌜ Judged (ruleOf h w steps limit (now (palette .entry)) «max_delta») (h * w) at (now (work .entry)) (now (work .exit)) r ⌝ }
+pub fn verdict(work: &mut [u32], grid: Grid, palette: &[f64], by: Criteria, at: usize) -> u32
+    requires { ⌜ GroupedSheet grid (now work) × Group (areaOf grid) (now work) at ⌝ }
+    requires { ⌜ Indexed (areaOf grid) (by .k) (now work) × (length (now palette) ≡ 768) ⌝ }
+    requires { ⌜ Sound (ruleOf grid by (now palette)) (areaOf grid) (now work) × Unmarked (areaOf grid) (now work) at ⌝ }
+    ensures { λ r. ⌜ Judged (ruleOf grid by (now (palette .entry))) (areaOf grid) at (now (work .entry)) (now (work .exit)) r ⌝ }
 {
-    let n = h * w;
+    let n = grid.h * grid.w;
     if work[6 * n + at] != 0 {
         return 0;
     }
@@ -46,17 +54,17 @@ pub fn verdict(
     if work[5 * n + first] != 0 {
         return 0;
     }
-    if !large_around(work, n, w, span.from, span.to) {
+    if !large_around(work, n, grid.w, span) {
         return 0;
     }
     let own = work[first] as usize - 1;
-    let voted = agreed(work, h, w, steps, span.from, span.to) as usize;
+    let voted = agreed(work, grid, span) as usize;
     if voted != 0 {
         let c = voted - 1;
-        return only_choice(palette, own, c, max_delta);
+        return only_choice(palette, own, c, by.max_delta);
     }
     let mark = at as u32 + 2;
     let mut counts = [0u32; 256];
-    poll(work, h, w, steps, span.from, span.to, mark, &mut counts);
-    choice(&counts, palette, k, own, max_delta)
+    poll(work, grid, span, mark, &mut counts);
+    choice(&counts, palette, by.k, own, by.max_delta)
 }

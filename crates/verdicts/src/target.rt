@@ -6,7 +6,7 @@ ghost use mathlib.Core.Path.{_≡_};
 ghost use mathlib.Core.Bool.{cond};
 ghost use Prim.Native.Nat.{_+_, _≤_, _<_};
 ghost use lib.ListN.{length};
-ghost use Rattle.verdicts.specs.Choice.{apart, peak, nearer, nearest, decision, choice};
+ghost use Rattle.verdicts.specs.Choice.{entryDistance, peak, nearer, nearest, decision, choice};
 ghost use Rattle.verdicts.specs.declared.target.Target.the-variants.{Index};
 
 // The index that a region may take, and its distance from the region's own.
@@ -45,7 +45,7 @@ fn nearer(t: Target, c: usize, d: f64) -> Target
 // Of the indices below k with m votes the nearest to `own`, the lowest of several.
 fn nearest(counts: &[u32; 256], m: u32, palette: &[f64], k: usize, own: usize) -> Target
     requires { ⌜ (k ≤ 256) × (own < k) × (length (now palette) ≡ 768) ⌝ }
-    ensures { λ r. ⌜ r ≡ nearest (apart (now (palette .entry)) own) (now (counts .entry)) m k ⌝ }
+    ensures { λ r. ⌜ r ≡ nearest (entryDistance (now (palette .entry)) own) (now (counts .entry)) m k ⌝ }
 {
     let from = entry(palette, own);
     let mut best = Target::Nothing;
@@ -71,7 +71,7 @@ fn decide(c: usize, near: bool) -> u32
 // What becomes of a region of the index `own` whose votes are all for c.
 pub fn only_choice(palette: &[f64], own: usize, c: usize, max_delta: f64) -> u32
     requires { ⌜ (own < 256) × (c < 256) × (length (now palette) ≡ 768) ⌝ }
-    ensures { λ r. ⌜ r ≡ decision (Index c (apart (now (palette .entry)) own c)) «max_delta» ⌝ }
+    ensures { λ r. ⌜ r ≡ decision (Index c (entryDistance (now (palette .entry)) own c)) «max_delta» ⌝ }
 {
     let near = closer_than(entry(palette, own), entry(palette, c), max_delta);
     decide(c, near)
@@ -80,7 +80,7 @@ pub fn only_choice(palette: &[f64], own: usize, c: usize, max_delta: f64) -> u32
 // What becomes of a region of the index `own` with these votes: 0 it stays, 1 it is frozen, c + 2 it takes the index c.
 pub fn choice(counts: &[u32; 256], palette: &[f64], k: usize, own: usize, max_delta: f64) -> u32
     requires { ⌜ (k ≤ 256) × (own < k) × (length (now palette) ≡ 768) ⌝ }
-    ensures { λ r. ⌜ r ≡ choice (apart (now (palette .entry)) own) (now (counts .entry)) k «max_delta» ⌝ }
+    ensures { λ r. ⌜ r ≡ choice (entryDistance (now (palette .entry)) own) (now (counts .entry)) k «max_delta» ⌝ }
 {
     let m = most(counts, k);
     if m == 0 {

@@ -1,17 +1,19 @@
 // The votes on a region: each large cell beside it votes once, for its own index.
+use crate::large::Span;
+use crate::step_count;
+use grid::Grid;
+use grid::Move;
 use grid::OFFSETS8;
 use grid::Step;
-use grid::on_border;
+use grid::on_edge;
 use grid::reached;
 ghost use mathlib.Core.Path.{_≡_};
-ghost use mathlib.Core.Bool.{true, false};
+ghost use mathlib.Core.Bool.{true};
 ghost use mathlib.Core.Option.{some};
-ghost use Prim.Native.Nat.{ℕ, _*_, _/_, _%_, _≤_, _<_};
-ghost use Rattle.rules.specs.Grid.{stepTo};
-ghost use Rattle.grid.specs.Steps.{hood, Single, Inner};
-ghost use Rattle.grid.specs.Planes.{plane};
-ghost use Rattle.verdicts.specs.Groups.{CanVote, GroupedSheet};
-ghost use Rattle.verdicts.specs.Polling.{Tallied, Polled};
+ghost use Prim.Native.Nat.{_<_};
+ghost use Rattle.verdicts.specs.Steps.{areaOf, adjoins, landing, OneStep};
+ghost use Rattle.verdicts.specs.Groups.{Stretch, GroupedSheet, CanVote};
+ghost use Rattle.verdicts.specs.Polling.{Tallied, Polled, Beside};
 
 // The cell q votes, if it is large and has not voted.
 fn ask(work: &mut [u32], n: usize, q: usize, mark: u32, counts: &mut [u32; 256])
@@ -34,72 +36,47 @@ fn ask(work: &mut [u32], n: usize, q: usize, mark: u32, counts: &mut [u32; 256])
 }
 
 // The cell that a step from p finds votes.
-fn vote(
-    work: &mut [u32],
-    h: usize,
-    w: usize,
-    p: usize,
-    dy: i32,
-    dx: i32,
-    border: bool,
-    mark: u32,
-    counts: &mut [u32; 256],
-)
-    requires { ⌜ CanVote (h * w) (now work) ⌝ }
-    requires { ⌜ (p < h * w) × (h ≤ 514) × (w ≤ 514) × (0 < mark) ⌝ }
-    requires { ⌜ Single dy × Single dx × (border ≡ false → Inner h w p) ⌝ }
-    requires { ⌜ Tallied (h * w) (now work) mark (now counts) ⌝ }
-    ensures { λ r. ⌜ Polled (h * w) mark (λ q. stepTo h w (p / w) (p % w) dy dx ≡ some q) (now (work .entry)) (now (work .exit)) (now (counts .exit)) ⌝ }
+fn vote(work: &mut [u32], grid: Grid, step: Move, mark: u32, counts: &mut [u32; 256])
+    requires { ⌜ GroupedSheet grid (now work) × OneStep grid step × (0 < mark) ⌝ }
+    requires { ⌜ Tallied (areaOf grid) (now work) mark (now counts) ⌝ }
+    ensures { λ r. ⌜ Polled (areaOf grid) mark (λ q. landing grid step ≡ some q) (now (work .entry)) (now (work .exit)) (now (counts .exit)) ⌝ }
 {
-    let Step::Cell(q) = reached(p, dy, dx, border, h, w) else {
+    let Step::Cell(q) = reached(step.p, step.dy, step.dx, step.border, grid.h, grid.w) else {
         return;
     };
-    let n = h * w;
+    let n = grid.h * grid.w;
     ask(work, n, q, mark, counts);
 }
 
 // The neighbours of the cell p vote.
-fn vote_all(
-    work: &mut [u32],
-    h: usize,
-    w: usize,
-    steps: usize,
-    p: usize,
-    mark: u32,
-    counts: &mut [u32; 256],
-)
-    requires { ⌜ GroupedSheet h w steps (now work) ⌝ }
-    requires { ⌜ (p < h * w) × (0 < mark) ⌝ }
-    requires { ⌜ Tallied (h * w) (now work) mark (now counts) ⌝ }
-    ensures { λ r. ⌜ Polled (h * w) mark (λ q. hood steps w p q ≡ true) (now (work .entry)) (now (work .exit)) (now (counts .exit)) ⌝ }
+fn vote_all(work: &mut [u32], grid: Grid, p: usize, mark: u32, counts: &mut [u32; 256])
+    requires { ⌜ GroupedSheet grid (now work) × (p < areaOf grid) × (0 < mark) ⌝ }
+    requires { ⌜ Tallied (areaOf grid) (now work) mark (now counts) ⌝ }
+    ensures { λ r. ⌜ Polled (areaOf grid) mark (λ q. adjoins grid p q ≡ true) (now (work .entry)) (now (work .exit)) (now (counts .exit)) ⌝ }
 {
-    let border = on_border(p, h, w);
+    let border = on_edge(p, grid.h, grid.w);
     let offsets = OFFSETS8;
-    for k in 0..steps {
-        let o = offsets[k];
-        vote(work, h, w, p, o[0], o[1], border, mark, counts);
+    let steps = step_count(grid);
+    for s in 0..8 {
+        if s == steps {
+            return;
+        }
+        let o = offsets[s];
+        let dy = o[0];
+        let dx = o[1];
+        vote(work, grid, Move { p, dy, dx, border }, mark, counts);
     }
 }
 
-// The neighbours of the places from `from` on and before `to` of the order vote.
-pub fn poll(
-    work: &mut [u32],
-    h: usize,
-    w: usize,
-    steps: usize,
-    from: usize,
-    to: usize,
-    mark: u32,
-    counts: &mut [u32; 256],
-)
-    requires { ⌜ GroupedSheet h w steps (now work) ⌝ }
-    requires { ⌜ (from ≤ to) × (to ≤ h * w) × (0 < mark) × ((i : ℕ) → from ≤ i → i < to → plane (h * w) 2 (now work) i < h * w) ⌝ }
-    requires { ⌜ Tallied (h * w) (now work) mark (now counts) ⌝ }
-    ensures { λ r. ⌜ Polled (h * w) mark (λ q. (i : ℕ) × (from ≤ i) × (i < to) × (hood steps w (plane (h * w) 2 (now (work .entry)) i) q ≡ true)) (now (work .entry)) (now (work .exit)) (now (counts .exit)) ⌝ }
+// The neighbours of the places of a span vote.
+pub fn poll(work: &mut [u32], grid: Grid, span: Span, mark: u32, counts: &mut [u32; 256])
+    requires { ⌜ GroupedSheet grid (now work) × Stretch (areaOf grid) (now work) span × (0 < mark) ⌝ }
+    requires { ⌜ Tallied (areaOf grid) (now work) mark (now counts) ⌝ }
+    ensures { λ r. ⌜ Polled (areaOf grid) mark (Beside grid (now (work .entry)) (span .from) (span .to)) (now (work .entry)) (now (work .exit)) (now (counts .exit)) ⌝ }
 {
-    let n = h * w;
-    for i in from..to {
+    let n = grid.h * grid.w;
+    for i in span.from..span.to {
         let p = work[2 * n + i] as usize;
-        vote_all(work, h, w, steps, p, mark, counts);
+        vote_all(work, grid, p, mark, counts);
     }
 }

@@ -1,5 +1,5 @@
 -- `orphans::clean_planes`: the planes at the start, the first pass, and the passes after it. Assumes nothing.
-use Prim.Native.Nat.{_*_, _≤_, _<_}
+use Prim.Native.Nat.{ℕ, _*_, _≤_, _<_}
 use mathlib.Core.Path.{_≡_, refl, sym, _∙_}
 use native.Mathlib.Omega.{arith}
 use borrow.Author.Needs.{needs}
@@ -8,6 +8,7 @@ use lib.ListN.{length}
 use Rattle.rules.specs.Pass.{Rule, fresh}
 use Rattle.grid.specs.Planes.{cellsOf}
 use Rattle.grid.proofs.Places.{area}
+use Rattle.verdicts.specs.Steps.{areaOf}
 use Rattle.verdicts.specs.Judging.{ruleOf, stateOf}
 use Rattle.orphans.proofs.Cleaning.{thawed-known, same-size}
 use Rattle.orphans.specs.Starting.{AtStart}
@@ -16,36 +17,48 @@ use Rattle.orphans.proofs.Continuing.{cleaned-none, cleaned-still, clea
 use Rattle.orphans.proofs.clean_planes.Statement.{statement}
 use Rattle.orphans.proofs.clean_planes.Tie as tie
 
+abbrev n : tie.Start → ℕ
+n s = areaOf (s .args .grid)
+
 abbrev ruled : tie.Start → Rule
-ruled s = ruleOf (s .args .h) (s .args .w) (s .args .steps) (s .args .limit) (s .args .palette .now) (s .args .max-delta)
+ruled s = ruleOf (s .args .grid) (s .args .by) (s .args .palette .now)
 
 -- the sizes
 pub record Sizes (s : tie.Start) : Type 0 where
-  pub few : s .args .h * s .args .w ≤ 264196
-  pub room : 8 * (s .args .h * s .args .w) ≤ length (s .args .work .now)
+  pub few : n s ≤ 264196
+  pub room : 8 * (n s) ≤ length (s .args .work .now)
 
 sizes : (s : tie.Start) → Sizes s
-sizes s = record { few = area (s .args .h) (s .args .w) (s .pre .0 .rows) (s .pre .0 .cols); room = s .pre .0 .planes }
+sizes s = record { few = area (s .args .grid .h) (s .args .grid .w) (s .pre .0 .rows) (s .pre .0 .cols); room = s .pre .0 .planes }
+
+abbrev entered : tie.After-struct-known → tie.Start
+entered c = c .before .before .before
 
 mul-n : tie.Need-mul-n
-mul-n c = let z = sizes (c .before .before) in omega arith
+mul-n c = let z = sizes (entered c) in omega arith
 
 mul-wipe : tie.Need-mul-wipe
-mul-wipe c = let z = sizes (c .before .before .before) in omega arith
+mul-wipe c = let z = sizes (entered (c .before)) in omega arith
 
 wipe-requires : tie.Need-wipe-requires
-wipe-requires c κs = let z = sizes (c .before .before .before) in omega arith
+wipe-requires c κs = let z = sizes (entered (c .before)) in omega arith
 
 -- ---- places
 
 abbrev start : tie.After-wipe → tie.Start
-start c = c .before .before .before .before
+start c = entered (c .before .before)
+
+abbrev cleared : tie.After-slice-known2 → tie.After-wipe
+cleared c = c .before .before
 
 abbrev thawed : tie.After-label-planes → tie.After-wipe
-thawed c = c .before .before .before .before .before
+thawed c = cleared (c .before .before .before .before)
+
+abbrev counted : tie.After-struct-known2 → tie.After-label-planes
+counted c = c .before .before .before
 
 abbrev labelled : tie.After-any-small → tie.After-label-planes
-labelled c = c .before .before .before .before .before
+labelled c = counted (c .before .before)
 
 abbrev wiped : tie.After-mark-large → tie.After-wipe2
 wiped c = c .before .before .before .before
@@ -59,38 +72,41 @@ first c = c .before .before .before
 -- ---- no pass
 
 same-length : tie.Need-same-length
-same-length c = c .before .before .before .wipe .ensures .len
+same-length c = cleared (c .before) .wipe .ensures .len
 
 returns : tie.Need-returns
 unfolding ruleOf
 returns c =
-    let v = c .before .before .before in
+    let v = cleared (c .before) in
     let s = start v in
-    cleaned-none (ruled s) (s .args .h * s .args .w) (s .args .k) (s .args .max-passes) (s .args .work .now) (v .wipe .last .0) refl (c .if1 .taken) (s .pre .1 .0) (v .wipe .ensures)
+    cleaned-none (ruled s) (n s) (s .args .by .k) (s .args .max-passes) (s .args .work .now) (v .wipe .last .0) refl (c .if1 .taken) (s .pre .1 .0) (v .wipe .ensures)
 
 -- ---- the sheet is labelled
 
+step-count-requires : tie.Need-step-count-requires
+step-count-requires c κs = start (cleared (c .before .before)) .pre .0 .count
+
 label-planes-requires : tie.Need-label-planes-requires
 label-planes-requires c κs =
-    let v = c .before .before .before .before in
+    let v = cleared (c .before .before .before) in
     let s = start v in
-    let i = thawed-known (s .args .h * s .args .w) (s .args .k) (s .args .work .now) (v .wipe .last .0) (v .wipe .ensures) (s .pre .1 .0) in
-    (same-size (s .pre .0) (v .wipe .ensures .len), (λ p l. omega (arith, i .below p l, i .few)))
+    let i = thawed-known (n s) (s .args .by .k) (s .args .work .now) (v .wipe .last .0) (v .wipe .ensures) (s .pre .1 .0) in
+    (rw (c .step-count .ensures) (same-size (s .pre .0) (v .wipe .ensures .len)), (λ p l. omega (arith, i .below p l, i .few)))
 
 cast-count : tie.Need-cast-count
 cast-count c = search needs
 
 -- a pass is asked for
 asked : (c : tie.After-label-planes) → 0 < start (thawed c) .args .max-passes
-asked c = omega (arith, c .before .before .if1 .left)
+asked c = omega (arith, c .before .before .before .if1 .left)
 
 -- what labelling left
-labelling-of : (c : tie.After-label-planes) → let s = start (thawed c) in Labelling (s .args .h) (s .args .w) (s .args .steps) (s .args .k) (s .args .work .now) (c .label-planes .last .0) (c .label-planes .result .regions)
-labelling-of c = let v = thawed c in let s = start v in labelling (s .pre .0) (s .pre .1 .0) (c .label-planes .result) (v .wipe .ensures) (c .label-planes .ensures .0) (c .label-planes .ensures .1)
+labelling-of : (c : tie.After-label-planes) → let s = start (thawed c) in Labelling (s .args .grid) (s .args .by) (s .args .work .now) (c .label-planes .last .0) (c .label-planes .result .regions)
+labelling-of c = let v = thawed c in let s = start v in labelling (s .pre .0) (s .pre .1 .0) (c .label-planes .result) (v .wipe .ensures) (rw (c .before .step-count .ensures) at (c .label-planes .ensures .0)) (c .label-planes .ensures .1)
 
 any-small-requires : tie.Need-any-small-requires
 any-small-requires c κs =
-    let l = c .before .before .before .before in
+    let l = counted (c .before) in
     let z = sizes (start (thawed l)) in
     ((omega (arith, labelling-of l .len), z .few), labelled-groups (labelling-of l))
 
@@ -105,8 +121,8 @@ returns-2 c =
     let l = labelled (c .before) in
     let s = start (thawed l) in
     let u = labelling-of l in
-    cleaned-still (ruled s) (s .args .h * s .args .w) (s .args .k) (s .args .max-passes) (s .args .work .now) (l .label-planes .last .0) (labelled-state u (ruled s) refl) (u .len) (asked l)
-    (passed-still u (s .args .limit) (s .args .palette .now) (s .args .max-delta) (sym (c .before .any-small .ensures) ∙ not-true (c .before .any-small .result) (c .if2 .taken)))
+    cleaned-still (ruled s) (n s) (s .args .by .k) (s .args .max-passes) (s .args .work .now) (l .label-planes .last .0) (labelled-state u (ruled s) refl) (u .len) (asked l)
+    (passed-still u (s .args .palette .now) (sym (c .before .any-small .ensures) ∙ not-true (c .before .any-small .result) (c .if2 .taken)))
 
 -- ---- else the planes are made ready
 
@@ -127,12 +143,12 @@ mark-large-requires c κs =
     let w = c .before .before .before in
     let l = labelled (asked-small w) in
     let z = sizes (start (thawed l)) in
-    ((omega (arith, w .wipe2 .ensures .len, labelling-of l .len), z .few), start-groups (labelling-of l) (w .wipe2 .last .0) (w .wipe2 .ensures))
+    ((omega (arith, w .wipe2 .ensures .len, labelling-of l .len), z .few), start-groups (labelling-of l) (w .wipe2 .ensures))
 
 -- what the first pass finds
 pub record Ground (c : tie.After-mark-large) : Type 0 where
-  pub at-start : let l = labelled (asked-small (wiped c)) in let s = start (thawed l) in AtStart (s .args .h) (s .args .w) (s .args .steps) (s .args .k) (s .args .limit) (c .mark-large .last .0) (l .label-planes .result .regions)
-  pub state : let s = start (thawed (labelled (asked-small (wiped c)))) in stateOf (s .args .h * s .args .w) (c .mark-large .last .0) ≡ fresh (ruled s) (cellsOf (s .args .h * s .args .w) (s .args .work .now))
+  pub at-start : let l = labelled (asked-small (wiped c)) in let s = start (thawed l) in AtStart (s .args .grid) (s .args .by) (c .mark-large .last .0) (l .label-planes .result .regions)
+  pub state : let s = start (thawed (labelled (asked-small (wiped c)))) in stateOf (n s) (c .mark-large .last .0) ≡ fresh (ruled s) (cellsOf (n s) (s .args .work .now))
   pub len : length (c .mark-large .last .0) ≡ length (start (thawed (labelled (asked-small (wiped c)))) .args .work .now)
 
 ground : (c : tie.After-mark-large) → Ground c
@@ -143,9 +159,9 @@ ground c =
     let s = start (thawed l) in
     let u = labelling-of l in
     record {
-      at-start = at-start u (w .wipe2 .last .0) (w .wipe2 .ensures) (s .args .limit) (c .mark-large .last .0) (c .mark-large .ensures);
-      state = start-state u (w .wipe2 .last .0) (w .wipe2 .ensures) (s .args .limit) (c .mark-large .last .0) (c .mark-large .ensures) (ruled s) refl;
-      len = start-length u (w .wipe2 .last .0) (w .wipe2 .ensures) (s .args .limit) (c .mark-large .last .0) (c .mark-large .ensures);
+      at-start = at-start u (w .wipe2 .ensures) (c .mark-large .ensures);
+      state = start-state u (w .wipe2 .ensures) (c .mark-large .ensures) (ruled s) refl;
+      len = start-length u (w .wipe2 .ensures) (c .mark-large .ensures);
     }
 
 -- ---- the first pass
@@ -171,7 +187,7 @@ returns-3 c =
     let b = started f in
     let g = ground b in
     let s = origin f in
-    cleaned-first (ruled s) (s .args .h) (s .args .w) (s .args .steps) (s .args .k) (s .args .max-passes) (s .args .work .now) (b .mark-large .last .0) (f .first-pass .last .0) (g .state) (g .len) (g .at-start .known) (asked (begun f)) (f .first-pass .ensures) (c .if3 .taken)
+    cleaned-first (ruled s) (s .args .grid) (s .args .by .k) (s .args .max-passes) (s .args .work .now) (b .mark-large .last .0) (f .first-pass .last .0) (g .state) (g .len) (g .at-start .known) (asked (begun f)) (f .first-pass .ensures) (c .if3 .taken)
 
 sub-left : tie.Need-sub-left
 sub-left c = let m = asked (begun (first c)) in omega arith
@@ -190,7 +206,7 @@ returns-4 c =
     let b = started f in
     let g = ground b in
     let s = origin f in
-    cleaned-more (ruled s) (s .args .h) (s .args .w) (s .args .steps) (s .args .k) (s .args .max-passes) (s .args .work .now) (b .mark-large .last .0) (f .first-pass .last .0) (g .state) (g .len) (g .at-start .known) (asked (begun f)) (f .first-pass .ensures) (grown e) (l .later-passes .ensures .0)
+    cleaned-more (ruled s) (s .args .grid) (s .args .by .k) (s .args .max-passes) (s .args .work .now) (b .mark-large .last .0) (f .first-pass .last .0) (g .state) (g .len) (g .at-start .known) (asked (begun f)) (f .first-pass .ensures) (grown e) (l .later-passes .ensures .0)
 
 later-passes-requires : tie.Need-later-passes-requires
 later-passes-requires c κs = let e = c .before in let f = first e in (f .first-pass .ensures .next (grown e), origin f .pre .1 .1)
@@ -210,6 +226,7 @@ clean-planes-spec =
     wipe-requires
     same-length
     returns
+    step-count-requires
     label-planes-requires
     cast-count
     any-small-requires

@@ -5,11 +5,11 @@ use mathlib.Core.Logic.{inr}
 use mathlib.Core.Bool.{false}
 use native.Mathlib.Omega.{arith}
 use lib.Dec.{T}
-use lib.IntN.{pos, natAbs}
+use lib.IntN.{ℤ, pos, natAbs}
 use lib.Signed.{nonNeg, ltZ, pos-natAbs, natAbs-le}
 use lib.ListN.{take}
 use mir.Syntax.{w32}
-use mir.Val.{Fits, toZ, ofZ}
+use mir.Val.{Fits, SFits, toZ, ofZ}
 use mir.Facts.{toZ-ofZ}
 use Rattle.grid.proofs.Planes.{Painted}
 use Rattle.grid.proofs.Tiles.{whole-tile, load-whole, store-whole}
@@ -18,44 +18,70 @@ use borrow.Author.Needs.{needs}
 use Rattle.orphans.proofs.clean_sheet.Statement.{statement}
 use Rattle.orphans.proofs.clean_sheet.Tie as tie
 
-returns : tie.Need-returns
-returns c = let s = c .before .before .before in none-cleaned (s .pre) (s .args .max-passes) (s .args .max-delta) (rw (toZ-ofZ (s .fits .min-region)) at (c .if1 .taken))
+abbrev entered : tie.After-struct-told → tie.Start
+entered c = c .before .before .before
 
-low : (c : tie.Else1) → ltZ (c .before .before .before .args .min-region) (pos 2) ≡ false
-low c = rw (toZ-ofZ (c .before .before .before .fits .min-region)) at (c .if1 .left)
+-- the region limit, as its 32 bits give it
+abbrev region : tie.After-struct-told → ℤ
+region c = entered c .args .limits .region
+
+known : (c : tie.After-struct-told) → SFits w32 (region c)
+known c = record { sfits = c .struct-told .given .0 .1 }
+
+back : (c : tie.After-struct-told) → toZ w32 (ofZ w32 (region c)) ≡ region c
+back c = toZ-ofZ {w = w32} {z = region c} (known c)
+
+returns : tie.Need-returns
+returns c =
+    let t = c .before in
+    let s = entered t in
+    none-cleaned (s .pre) (s .args .max-passes) (s .args .limits .colour) (rw (back t) at (c .if1 .taken))
+
+low : (c : tie.Else1) → ltZ (region (c .before)) (pos 2) ≡ false
+low c = rw (back (c .before)) at (c .if1 .left)
 
 cast-limit : tie.Need-cast-limit
 cast-limit c =
-    let s = c .before .before .before in
-    let z = s .args .min-region in
-    let l : natAbs z ≤ 2147483648 = natAbs-le z (s .fits .min-region .sfits) in
+    let t = c .before in
+    let z = region t in
+    let l : natAbs z ≤ 2147483648 = natAbs-le z (known t .sfits) in
     let p : T (nonNeg z) × Fits w32 (natAbs z) = (not-negative z (low c), omega arith) in
-    rw (toZ-ofZ (s .fits .min-region)) p
+    rw (back t) p
 
-load-requires : tie.Need-load-requires
-load-requires c κs = let f = c .before .before .before .before .before .pre in whole-tile _ _ _ _ (f .rows) (f .cols) (f .reads) (f .planes)
+abbrev begun : tie.After-load → tie.Else1
+begun c = c .before .before .before
 
 abbrev start : tie.After-load → tie.Start
-start c = c .before .before .before .before .before .before
+start c = entered (begun c .before)
+
+load-requires : tie.Need-load-requires
+load-requires c κs = let f = entered (c .before .before .before) .pre in whole-tile _ _ _ _ (f .rows) (f .cols) (f .reads) (f .planes)
 
 -- plane 0 once it is loaded
-painted : (c : tie.After-load) → let a = start c .args in Painted (take (a .h * a .w) (a .cells .now)) (a .h * a .w) (c .load .last .1 .0)
+painted : (c : tie.After-load) → let a = start c .args in let n = a .size .h * a .size .w in Painted (take n (a .cells .now)) n (c .load .last .1 .0)
 painted c =
     let a = start c .args in
-    subst (Painted (take (a .h * a .w) (a .cells .now)) (a .h * a .w)) (sym (c .load .ensures .0)) (load-whole (a .cells .now) (a .work .now) (a .h) (a .w) (start c .pre .reads))
+    let n = a .size .h * a .size .w in
+    subst (Painted (take n (a .cells .now)) n) (sym (c .load .ensures .0)) (load-whole (a .cells .now) (a .work .now) (a .size .h) (a .size .w) (start c .pre .reads))
 
 clean-planes-requires : tie.Need-clean-planes-requires
 clean-planes-requires c κs =
     let l = c .before .before .before in
     let f = start l .pre in (
       record { rows = f .rows; cols = f .cols; count = inr refl; planes = rw (l .load .kept .1 .0) (f .planes) },
-      (loaded-known f (low (l .before .before .before)) (l .load .last .1 .0) (painted l), f .doubles),
+      (loaded-known f (low (begun l)) (l .load .last .1 .0) (painted l), f .doubles),
     )
+
+abbrev cleaned : tie.After-store-arg2 → tie.After-clean-planes
+cleaned c = c .before .before .before .before
+
+abbrev loaded : tie.After-clean-planes → tie.After-load
+loaded c = c .before .before .before .before
 
 store-requires : tie.Need-store-requires
 store-requires c κs =
-    let v = c .before .before .before .before in
-    let l = v .before .before .before .before in
+    let v = cleaned c in
+    let l = loaded v in
     let f = start l .pre in (
       whole-tile _ _ _ _ (f .rows) (f .cols) (f .reads) (rw (v .clean-planes .ensures .len, l .load .kept .1 .0) (f .planes)),
       (λ p h. omega (arith, v .clean-planes .ensures .known .below p h, f .entries)),
@@ -70,13 +96,13 @@ same-length-2 c = search needs
 returns-2 : tie.Need-returns-2
 returns-2 c =
     let t = c .before in
-    let v = t .before .before .before .before .before in
-    let l = v .before .before .before .before in
+    let v = cleaned (t .before) in
+    let l = loaded v in
     let s = start l in
-    let z = s .args .min-region in
-    let e : pos (natAbs (toZ w32 (ofZ w32 z))) ≡ z = rw (toZ-ofZ (s .fits .min-region)) (pos-natAbs z (not-negative z (low (l .before .before .before)))) in
-    let r = all-cleaned (s .pre) (s .args .max-passes) (s .args .max-delta) (natAbs (toZ w32 (ofZ w32 z))) e (l .load .last .1 .0) (v .clean-planes .last .0) (v .clean-planes .result) (painted l) (v .clean-planes .ensures) in
-    (r .0, t .store .ensures ∙ store-whole (s .args .cells .now) (v .clean-planes .last .0) (s .args .h) (s .args .w) (s .pre .reads) ∙ r .1)
+    let z = region (begun l .before) in
+    let e : pos (natAbs (toZ w32 (ofZ w32 z))) ≡ z = rw (back (begun l .before)) (pos-natAbs z (not-negative z (low (begun l)))) in
+    let r = all-cleaned (s .pre) (s .args .max-passes) (s .args .limits .colour) (natAbs (toZ w32 (ofZ w32 z))) e (l .load .last .1 .0) (v .clean-planes .last .0) (v .clean-planes .result) (painted l) (v .clean-planes .ensures) in
+    (r .0, t .store .ensures ∙ store-whole (s .args .cells .now) (v .clean-planes .last .0) (s .args .size .h) (s .args .size .w) (s .pre .reads) ∙ r .1)
 
 pub clean-sheet-spec : {M : Type 1} → statement M
 clean-sheet-spec =

@@ -1,56 +1,39 @@
 -- `frontier::growing::absorb_all`: the groups of the log so far. Assumes nothing.
-use Prim.Native.Nat.{ℕ, suc, _-_, _*_, _≤_}
+use Prim.Native.Nat.{suc, _-_, _≤_}
 use mathlib.Core.Path.{_≡_, refl, sym, ap, _∙_}
 use mathlib.Core.Logic.{_⊎_, inl, inr, ⊎-elim}
-use mathlib.Core.List.{List}
-use native.Mathlib.Decide.{ℕ-discrete}
 use native.Mathlib.Omega.{arith}
-use Rattle.grid.specs.Planes.{plane}
-use Rattle.grid.proofs.Places.{area}
-use Rattle.frontier.specs.Growing.{Beside, Gained}
-use Rattle.verdicts.proofs.Keeping.{group-alike}
-use Rattle.frontier.proofs.Turns.{LogTurn, log-turn}
-use Rattle.frontier.proofs.Gains.{gained-start, gained-same, gained-trans, gained-paint, gained-alike}
+use Rattle.verdicts.specs.Steps.{areaOf}
+use Rattle.verdicts.proofs.Keeping.{sheet-few, group-alike}
+use Rattle.verdicts.proofs.Spans.{within-more, more-within, within-to}
+use Rattle.frontier.specs.Growing.{MatchesLogged, Gained}
+use Rattle.frontier.proofs.Turns.{LogTurn, log-turn, within-end}
+use Rattle.frontier.proofs.Gains.{gained-start, gained-same, gained-trans, gained-alike, matches-now, matches-was}
 use Rattle.frontier.proofs.growing.absorb_all.Statement.{statement}
 use Rattle.frontier.proofs.growing.absorb_all.Tie as tie
 
--- what holds before the turn i
-pub record Turn (h w steps from to i : ℕ) (a b : List ℕ) (last : ℕ) : Type 0 where
-  pub gained : Gained h w steps (Beside h w steps a from i) a b to last
-  pub low : from ≤ i
-  pub high : (i ≤ to) ⊎ (i ≡ from)
-
 abbrev Inv-loop : tie.InvT-loop
-Inv-loop work₀ h w steps from to n last₀ i₀ work last i = Turn h w steps from to i work₀ work last
+Inv-loop work₀ grid from to n last₀ i₀ work last i = Gained grid (MatchesLogged grid work₀ from i) work₀ work to last × (from ≤ i) × ((i ≤ to) ⊎ (i ≡ from))
 
 abbrev μ-loop : tie.MeasureT-loop
-μ-loop work₀ h w steps from to n last₀ i₀ work last i = to - i
-
-few : (s : tie.Start Inv-loop μ-loop) → s .args .h * s .args .w ≤ 264196
-few s = area _ _ (s .pre .0 .sheet .rows) (s .pre .0 .sheet .cols)
+μ-loop work₀ grid from to n last₀ i₀ work last i = to - i
 
 mul-n : tie.Need-mul-n Inv-loop μ-loop
-mul-n c = omega (arith, few (c .before))
+mul-n c = omega (arith, sheet-few (c .before .before .pre .0 .sheet))
 
 loop-holds : tie.Need-loop-holds Inv-loop μ-loop
-loop-holds c =
-    let s = c .before in
-    record {
-      gained = gained-start (s .args .h) (s .args .w) (s .args .steps) (s .args .to) (Beside (s .args .h) (s .args .w) (s .args .steps) (s .args .work .now) (s .args .from) (s .args .from)) (s .args .work .now) (s .pre .0)
-          (λ q l y w. let f = y .1 in let g = y .2 in absurd (omega arith));
-      low = omega arith;
-      high = inr refl;
-    }
+loop-holds c = (gained-start _ _ _ _ (c .before .before .pre .0) (λ q l y w. let f = y .1 in let g = y .2 in absurd (omega arith)), omega arith, inr refl)
 
 abbrev start : tie.In-loop Inv-loop μ-loop → tie.Start Inv-loop μ-loop
-start c = c .before .before .before
+start c = c .before .before .before .before
 
 -- what is read is a group
-turn : (c : tie.In-loop Inv-loop μ-loop) → LogTurn (start c .args .h * start c .args .w) (start c .args .to) (c .before .loop .i) (start c .args .work .now) (c .before .loop .work)
+turn : (c : tie.In-loop Inv-loop μ-loop) → LogTurn (areaOf (start c .args .grid)) (start c .args .to) (c .before .loop .i) (start c .args .work .now) (c .before .loop .work)
 turn c =
     let s = start c in
+    let b = s .pre .0 .sheet in
     let u = c .before .loop .inv in
-    log-turn (few s) (s .pre .0 .sheet .room) (omega (arith, s .pre .0 .room)) (c .loop-test .taken) (u .gained .len) (λ l. u .gained .kept _ (c .loop-test .taken)) (s .pre .1 _ (u .low) (c .loop-test .taken))
+    log-turn (sheet-few b) (b .room) (omega (arith, s .pre .0 .room)) (c .loop-test .taken) (u .0 .len) (λ l. u .0 .kept _ (c .loop-test .taken)) (s .pre .1 _ (u .1) (c .loop-test .taken))
 
 mul-at : tie.Need-mul-at Inv-loop μ-loop
 mul-at c = omega (arith, turn c)
@@ -70,7 +53,7 @@ cast-at c = omega (arith, turn (c .before))
 absorb-around-requires : tie.Need-absorb-around-requires Inv-loop μ-loop
 absorb-around-requires c κs =
     let i = c .before .before in
-    let u = i .before .loop .inv .gained in
+    let u = i .before .loop .inv .0 in
     (u .growth, group-alike (gained-alike u) _ (turn i .group))
 
 abbrev turned : tie.After-absorb-around Inv-loop μ-loop → tie.In-loop Inv-loop μ-loop
@@ -86,37 +69,22 @@ loop-again : tie.Need-loop-again Inv-loop μ-loop
 loop-again c =
     let j = c .before .before in
     let i = turned j in
-    let s = start i in
-    let n = s .args .h * s .args .w in
-    let a = s .args .work .now in
-    let k = i .before .loop .i in
     let u = i .before .loop .inv in
-    let g = u .gained in
-    let b = turn i in
-    record {
-      gained = gained-same
-          (λ q l. ⊎-elim
-          (λ z. (z .0, z .1, omega (arith, z .2), z .3, z .4, z .5, z .6, z .7))
-          (λ z. (k, u .low, omega arith, z .0, z .1, sym (gained-alike g .label (z .0) (z .1)) ∙ z .2 ∙ ap suc (b .is), z .3, sym (gained-paint g q l) ∙ z .4 ∙ gained-paint g (z .0) (z .1))))
-          (λ q l z. elim (ℕ-discrete (z .0) k) [
-            | yes e ↦ inr (z .3, z .4, gained-alike g .label (z .3) (z .4) ∙ z .5 ∙ ap (λ (x : ℕ). suc (plane n 7 a x)) e ∙ ap suc (sym (b .is)), z .6, gained-paint g q l ∙ z .7 ∙ sym (gained-paint g (z .3) (z .4)))
-            | no d ↦ inl (z .0, z .1, omega (arith, z .2), z .3, z .4, z .5, z .6, z .7)
-          ])
-          (gained-trans g (j .absorb-around .ensures));
-      low = omega (arith, u .low);
-      high = inl (omega (arith, b .turn));
-    }
+    let g = u .0 in
+    let b = turn i in (
+      gained-same
+          (λ q l. ⊎-elim (λ z. more-within (u .1) (inl z)) (λ z. more-within (u .1) (inr (z .0, z .1, sym (gained-alike g .label (z .0) (z .1)) ∙ z .2 ∙ ap suc (b .is), matches-was g (z .0) q (z .1) l (z .3)))))
+          (λ q l z. ⊎-elim inl (λ y. inr (y .0, y .1, gained-alike g .label (y .0) (y .1) ∙ y .2 ∙ ap suc (sym (b .is)), matches-now g (y .0) q (y .1) l (y .3))) (within-more z))
+          (gained-trans g (j .absorb-around .ensures)),
+      omega (arith, u .1),
+      inl (omega (arith, b .turn)),
+    )
 
 same-length : tie.Need-same-length Inv-loop μ-loop
-same-length c = c .before .loop .inv .gained .len
+same-length c = c .before .loop .inv .0 .len
 
 returns : tie.Need-returns Inv-loop μ-loop
-returns c =
-    let u = c .before .loop .inv in
-    gained-same
-    (λ q l z. (z .0, z .1, ⊎-elim (λ y. omega (arith, z .2)) (λ y. let x = z .1 in absurd (omega (arith, z .2))) (u .high), z .3, z .4, z .5, z .6, z .7))
-    (λ q l z. (z .0, z .1, omega (arith, z .2, c .loop-test .left), z .3, z .4, z .5, z .6, z .7))
-    (u .gained)
+returns c = let u = c .before .loop .inv in gained-same (λ q l z. within-end (u .2) z) (λ q l z. within-to (c .loop-test .left) z) (u .0)
 
 pub absorb-all-spec : {M : Type 1} → statement M
 absorb-all-spec =

@@ -3,60 +3,62 @@ use Prim.Native.Nat.{ℕ, _-_, _*_, _≤_, _<_}
 use mathlib.Core.Path.{_≡_, sym, _∙_}
 use mathlib.Core.Logic.{inl, inr, ⊎-elim}
 use mathlib.Core.List.{List}
-use native.Mathlib.Decide.{ℕ-discrete}
 use native.Mathlib.Omega.{arith}
 use borrow.Author.Needs.{needs}
-use mir.Syntax.{w32}
-use mir.Val.{SFits}
-use mir.Facts.{toZ-ofZ}
 use lib.ListN.{length, getD}
 use Rattle.base.proofs.Counting.{not-true}
+use Rattle.grid.specs.declared.Grid.{Grid}
 use Rattle.grid.specs.Planes.{plane}
-use Rattle.grid.proofs.Places.{area, rowsOf, colsOf, hop, step-few, offset-single, off-border, hood-sound, hood-complete}
 use Rattle.grid.proofs.Planes.{plane-read}
-use Rattle.frontier.specs.Growing.{Gained}
-use Rattle.verdicts.proofs.Votes.{Reached}
-use Rattle.verdicts.proofs.Nearby.{hood-in}
+use Rattle.verdicts.specs.Steps.{areaOf}
+use Rattle.verdicts.proofs.Keeping.{sheet-few}
+use Rattle.verdicts.proofs.Stepping.{WalkTurn, walk-most, walk-turn}
+use Rattle.verdicts.proofs.Votes.{Reached, reached-more, more-reached, reached-all, all-reached}
+use Rattle.verdicts.proofs.Nearby.{neighbours-in}
+use Rattle.frontier.specs.Growing.{Matches, Gained}
 use Rattle.frontier.proofs.Gains.{gained-start, gained-none, gained-same, gained-trans, gained-paint}
 use Rattle.frontier.proofs.growing.absorb_beside.Statement.{statement}
 use Rattle.frontier.proofs.growing.absorb_beside.Tie as tie
 
 -- one of the first s steps from p leads to q, which has its paint
-abbrev Near : ℕ → ℕ → List ℕ → ℕ → ℕ → ℕ → Type 0
-Near h w a p s q = Reached h w p s q × (plane (h * w) 0 a q ≡ plane (h * w) 0 a p)
+abbrev Near : Grid → List ℕ → ℕ → ℕ → ℕ → Type 0
+Near grid a p s q = Reached grid p s q × (plane (areaOf grid) 0 a q ≡ plane (areaOf grid) 0 a p)
 
 abbrev Inv-loop : tie.InvT-loop
-Inv-loop work₀ h w steps p from n paint border offsets end₀ s₀ work end s = Gained h w steps (Near h w work₀ p s) work₀ work from end × (s ≤ steps)
+Inv-loop work₀ grid p from n paint border offsets steps end₀ s₀ work end s = Gained grid (Near grid work₀ p s) work₀ work from end × (s ≤ grid .steps)
 
 abbrev μ-loop : tie.MeasureT-loop
-μ-loop work₀ h w steps p from n paint border offsets end₀ s₀ work end s = steps - s
+μ-loop work₀ grid p from n paint border offsets steps end₀ s₀ work end s = 8 - s
 
 pub record Sizes (s : tie.Start Inv-loop μ-loop) : Type 0 where
-  pub few : s .args .h * s .args .w ≤ 264196
-  pub room : 8 * (s .args .h * s .args .w) ≤ length (s .args .work .now)
-  pub inside : s .args .p < s .args .h * s .args .w
+  pub few : areaOf (s .args .grid) ≤ 264196
+  pub room : 8 * areaOf (s .args .grid) ≤ length (s .args .work .now)
+  pub inside : s .args .p < areaOf (s .args .grid)
 
 sizes : (s : tie.Start Inv-loop μ-loop) → Sizes s
-sizes s = let b = s .pre .0 .sheet in record { few = area _ _ (b .rows) (b .cols); room = b .room; inside = s .pre .1 }
+sizes s = let b = s .pre .0 .sheet in record { few = sheet-few b; room = b .room; inside = s .pre .1 }
 
 mul-n : tie.Need-mul-n Inv-loop μ-loop
-mul-n c = omega (arith, sizes (c .before))
+mul-n c = omega (arith, sizes (c .before .before))
 
 mul-paint : tie.Need-mul-paint Inv-loop μ-loop
-mul-paint c = omega (arith, sizes (c .before))
+mul-paint c = omega (arith, sizes (c .before .before))
+
+abbrev entered : tie.After-slice-known2 Inv-loop μ-loop → tie.Start Inv-loop μ-loop
+entered c = c .before .before .before
 
 slice-read-paint : tie.Need-slice-read-paint Inv-loop μ-loop
-slice-read-paint c = omega (arith, sizes (c .before .before))
+slice-read-paint c = omega (arith, sizes (entered c))
 
 -- what is read is the place's paint
-paint-is : (s : tie.Start Inv-loop μ-loop) → getD (s .args .work .now) (s .args .p) 0 ≡ plane (s .args .h * s .args .w) 0 (s .args .work .now) (s .args .p)
-paint-is s = plane-read (s .args .h * s .args .w) 0 (s .args .p) (s .args .p) (s .args .work .now) (omega arith)
+paint-is : (s : tie.Start Inv-loop μ-loop) → getD (s .args .work .now) (s .args .p) 0 ≡ plane (areaOf (s .args .grid)) 0 (s .args .work .now) (s .args .p)
+paint-is s = plane-read (areaOf (s .args .grid)) 0 (s .args .p) (s .args .p) (s .args .work .now) (omega arith)
 
 small-near-requires : tie.Need-small-near-requires Inv-loop μ-loop
-small-near-requires c κs = let s = c .before .before .before in let z = sizes s in (z .room, z .few, s .pre .0 .sheet .cols, z .inside)
+small-near-requires c κs = let s = entered (c .before) in let z = sizes s in (z .room, z .few, s .pre .0 .sheet .cols, z .inside)
 
 abbrev start : tie.After-small-near Inv-loop μ-loop → tie.Start Inv-loop μ-loop
-start c = c .before .before .before .before
+start c = entered (c .before .before)
 
 same-length : tie.Need-same-length Inv-loop μ-loop
 same-length c = search needs
@@ -64,93 +66,101 @@ same-length c = search needs
 returns : tie.Need-returns Inv-loop μ-loop
 returns c =
     let s = start (c .before) in
-    gained-none (s .args .h) (s .args .w) (s .args .steps) (s .args .from) _ (s .args .work .now) (s .pre .0)
-    (λ q l z y. c .before .small-near .ensures (not-true (c .if1 .taken)) q (hood-in (s .args .h) (s .args .w) (s .args .steps) (s .pre .0 .sheet .ways) (s .args .p) q l (z .0)) (z .1 ∙ sym (paint-is s)))
+    gained-none (s .args .grid) (s .args .from) _ (s .args .work .now) (s .pre .0)
+    (λ q l z y. c .before .small-near .ensures (not-true (c .if1 .taken)) q (neighbours-in (s .args .grid) (s .pre .0 .sheet .ways) (s .args .p) q l (z .0)) (z .1 ∙ sym (paint-is s)))
 
-on-border-requires : tie.Need-on-border-requires Inv-loop μ-loop
-on-border-requires c κs = let s = start (c .before) in (s .pre .1, s .pre .0 .sheet .rows, s .pre .0 .sheet .cols)
+on-edge-requires : tie.Need-on-edge-requires Inv-loop μ-loop
+on-edge-requires c κs = let s = start (c .before) in (s .pre .1, s .pre .0 .sheet .rows, s .pre .0 .sheet .cols)
+
+abbrev begun : tie.After-on-edge Inv-loop μ-loop → tie.Start Inv-loop μ-loop
+begun c = start (c .before .before)
+
+step-count-requires : tie.Need-step-count-requires Inv-loop μ-loop
+step-count-requires c κs = begun c .pre .0 .sheet .ways
 
 loop-holds : tie.Need-loop-holds Inv-loop μ-loop
 loop-holds c =
-    let s = start (c .before .before) in (
-      gained-start (s .args .h) (s .args .w) (s .args .steps) (s .args .from) (Near (s .args .h) (s .args .w) (s .args .work .now) (s .args .p) 0) (s .args .work .now) (s .pre .0)
-          (λ q l z y. let n = z .0 .1 in absurd (omega arith)),
-      omega arith,
-    )
+    let s = begun (c .before) in
+    (gained-start (s .args .grid) (s .args .from) (Near (s .args .grid) (s .args .work .now) (s .args .p) 0) (s .args .work .now) (s .pre .0) (λ q l z y. let n = z .0 .1 in absurd (omega arith)), omega arith)
 
-abbrev asked : tie.In-loop Inv-loop μ-loop → tie.After-small-near Inv-loop μ-loop
-asked c = c .before .before .before .before
+-- the call that a walk belongs to
+abbrev ran : tie.At-loop Inv-loop μ-loop → tie.Start Inv-loop μ-loop
+ran c = begun (c .before .before)
 
-s-small : (c : tie.In-loop Inv-loop μ-loop) → c .before .loop .s < 8
-s-small c = step-few (start (asked c) .args .steps) (start (asked c) .pre .0 .sheet .ways) (c .before .loop .s) (c .loop-test .taken)
+-- the walk that a turn belongs to
+abbrev walked : tie.Else2 Inv-loop μ-loop → tie.At-loop Inv-loop μ-loop
+walked c = c .before .before
+
+-- the step in turn
+walk : (c : tie.Else2 Inv-loop μ-loop) → let a = walked c in WalkTurn (ran a .args .grid) (ran a .args .p) (a .loop .s) (a .before .before .on-edge .result)
+walk c =
+    let a = walked c in
+    let s = ran a in
+    walk-turn (s .pre .0 .sheet) (s .pre .1) (a .before .before .on-edge .ensures) (omega (arith, a .loop .inv .1, c .if2 .left, a .before .step-count .ensures))
 
 mul-o : tie.Need-mul-o Inv-loop μ-loop
-mul-o c = omega (arith, s-small c)
+mul-o c = omega (arith, walk c .few)
 
 array-copy-out-o : tie.Need-array-copy-out-o Inv-loop μ-loop
-array-copy-out-o c = omega (arith, s-small c)
+array-copy-out-o c = omega (arith, walk c .few)
 
-array-copy-out-absorb : tie.Need-array-copy-out-absorb Inv-loop μ-loop
-array-copy-out-absorb c = search needs
+array-copy-out-dy : tie.Need-array-copy-out-dy Inv-loop μ-loop
+array-copy-out-dy c = search needs
 
-array-copy-out-absorb-2 : tie.Need-array-copy-out-absorb-2 Inv-loop μ-loop
-array-copy-out-absorb-2 c = search needs
+array-copy-out-dx : tie.Need-array-copy-out-dx Inv-loop μ-loop
+array-copy-out-dx c = search needs
 
--- the step as it is handed over
-rows-fit : (c : tie.After-absorb-arg3 Inv-loop μ-loop) → SFits w32 (rowsOf (c .before .before .before .before .before .loop .s))
-rows-fit c = record { sfits = c .before .absorb-arg2 .given }
-
-cols-fit : (c : tie.After-absorb-arg3 Inv-loop μ-loop) → SFits w32 (colsOf (c .before .before .before .before .before .loop .s))
-cols-fit c = record { sfits = c .absorb-arg3 .given }
+abbrev turn : tie.After-absorb-arg Inv-loop μ-loop → tie.Else2 Inv-loop μ-loop
+turn c = c .before .before .before .before
 
 absorb-requires : tie.Need-absorb-requires Inv-loop μ-loop
-absorb-requires c κs =
-    let i = c .before .before .before .before in
-    let s = start (asked i) in
-    let o = offset-single (i .before .loop .s) (s-small i) in (
-      (i .before .loop .inv .0 .growth, s .pre .1),
-      (rw (toZ-ofZ (rows-fit c)) (o .0), rw (toZ-ofZ (cols-fit c)) (o .1), off-border (s .args .h) (s .args .w) (s .args .p) (s .pre .1) (i .before .before .on-border .ensures)),
-    )
+absorb-requires c κs = let i = turn c in (walked i .loop .inv .0 .growth, walk i .one)
 
-abbrev turn : tie.After-absorb Inv-loop μ-loop → tie.In-loop Inv-loop μ-loop
-turn c = c .before .before .before .before .before
+abbrev turned : tie.After-absorb Inv-loop μ-loop → tie.Else2 Inv-loop μ-loop
+turned c = turn (c .before)
 
 add-s : tie.Need-add-s Inv-loop μ-loop
-add-s c = omega (arith, s-small (turn (c .before .before)))
+add-s c = omega (arith, walk (turned (c .before .before)) .few)
 
 loop-less : tie.Need-loop-less Inv-loop μ-loop
-loop-less c = omega (arith, turn (c .before .before) .loop-test .taken)
+loop-less c = omega (arith, walk (turned (c .before .before)) .few)
 
 loop-again : tie.Need-loop-again Inv-loop μ-loop
-unfolding hop
 loop-again c =
     let j = c .before .before in
-    let g = j .before in
-    let i = turn j in
-    let s = start (asked i) in
-    let k = i .before .loop .s in
-    let u = i .before .loop .inv .0 in (
+    let i = turned j in
+    let a = walked i in
+    let s = ran a in
+    let k = a .loop .s in
+    let u = a .loop .inv .0 in (
       gained-same
-          (λ q l. ⊎-elim (λ z. ((z .0 .0, omega (arith, z .0 .1), z .0 .2), z .1)) (λ z. ((k, omega arith, z .0), sym (gained-paint u q l) ∙ z .1 ∙ paint-is s)))
-          (λ q l z. elim (ℕ-discrete (z .0 .0) k) [
-            | yes e ↦ inr (rw e at (z .0 .2), gained-paint u q l ∙ z .1 ∙ sym (paint-is s))
-            | no d ↦ inl ((z .0 .0, omega (arith, z .0 .1), z .0 .2), z .1)
-          ])
-          (gained-trans u (rw (toZ-ofZ (rows-fit g), toZ-ofZ (cols-fit g)) at (j .absorb .ensures))),
-      omega (arith, i .loop-test .taken),
+          (λ q l. ⊎-elim (λ z. (more-reached (s .args .grid) (s .args .p) k (inl (z .0)), z .1)) (λ z. (more-reached (s .args .grid) (s .args .p) k (inr (z .0)), sym (gained-paint u q l) ∙ z .1 ∙ paint-is s)))
+          (λ q l z. ⊎-elim (λ y. inl (y, z .1)) (λ y. inr (y, gained-paint u q l ∙ z .1 ∙ sym (paint-is s))) (reached-more (s .args .grid) (s .args .p) k (z .0)))
+          (gained-trans u (rw (walk i .lands) at (j .absorb .ensures))),
+      omega (arith, a .loop .inv .1, i .if2 .left, a .before .step-count .ensures),
     )
 
 same-length-2 : tie.Need-same-length-2 Inv-loop μ-loop
-same-length-2 c = c .before .loop .inv .0 .len
+same-length-2 c = c .before .before .loop .inv .0 .len
+
+same-length-3 : tie.Need-same-length-3 Inv-loop μ-loop
+same-length-3 c = c .before .loop .inv .0 .len
+
+-- once all steps are made
+all : (c : tie.At-loop Inv-loop μ-loop) → let s = ran c in s .args .grid .steps ≤ c .loop .s → Gained (s .args .grid) (Matches (s .args .grid) (s .args .work .now) (s .args .p)) (s .args .work .now) (c .loop .work) (s .args .from) (c .loop .end)
+all c e =
+    let s = ran c in
+    let ways = s .pre .0 .sheet .ways in
+    gained-same
+    (λ q l z. (reached-all (s .args .grid) (s .args .p) (c .loop .s) ways (c .loop .inv .1) (z .0), z .1))
+    (λ q l z. (all-reached (s .args .grid) (s .args .p) (c .loop .s) ways e l (z .0), z .1))
+    (c .loop .inv .0)
 
 returns-2 : tie.Need-returns-2 Inv-loop μ-loop
-returns-2 c =
-    let s = start (c .before .before .before .before) in
-    let u = c .before .loop .inv in
-    gained-same
-    (λ q l z. (hood-sound (s .args .steps) (s .pre .0 .sheet .ways) (s .args .h) (s .args .w) (s .args .p) (z .0 .0) q (omega (arith, z .0 .1, u .1)) (z .0 .2), z .1))
-    (λ q l z. let f = hood-complete (s .args .steps) (s .pre .0 .sheet .ways) (s .args .h) (s .args .w) (s .args .p) q l (z .0) in ((f .0, omega (arith, f .1, c .loop-test .left), f .2), z .1))
-    (u .0)
+returns-2 c = let a = c .before .before in all a (omega (arith, c .if2 .taken, a .before .step-count .ensures))
+
+returns-3 : tie.Need-returns-3 Inv-loop μ-loop
+returns-3 c = let a = c .before in all a (omega (arith, c .loop-test .left, walk-most (ran a .pre .0 .sheet)))
 
 pub absorb-beside-spec : {M : Type 1} → statement M
 absorb-beside-spec =
@@ -164,15 +174,18 @@ absorb-beside-spec =
     small-near-requires
     same-length
     returns
-    on-border-requires
+    on-edge-requires
+    step-count-requires
     loop-holds
+    same-length-2
+    returns-2
     mul-o
     array-copy-out-o
-    array-copy-out-absorb
-    array-copy-out-absorb-2
+    array-copy-out-dy
+    array-copy-out-dx
     absorb-requires
     add-s
     loop-less
     loop-again
-    same-length-2
-    returns-2)
+    same-length-3
+    returns-3)

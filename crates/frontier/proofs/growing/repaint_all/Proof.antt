@@ -1,12 +1,11 @@
 -- `frontier::growing::repaint_all`: the groups of the log so far. Assumes nothing.
 use Prim.Native.Nat.{_-_, _≤_}
-use mathlib.Core.Path.{_≡_, refl, sym, ap, _∙_}
+use mathlib.Core.Path.{_≡_, refl, sym, _∙_}
 use mathlib.Core.Logic.{_⊎_, inl, inr, ⊎-elim}
-use native.Mathlib.Decide.{ℕ-discrete}
 use native.Mathlib.Omega.{arith}
-use Rattle.grid.specs.Planes.{plane}
+use Rattle.verdicts.proofs.Spans.{within-more, more-within, within-to}
 use Rattle.frontier.specs.Growing.{Listed, Repainted}
-use Rattle.frontier.proofs.Turns.{LogTurn, log-turn}
+use Rattle.frontier.proofs.Turns.{LogTurn, log-turn, within-end}
 use Rattle.frontier.proofs.Repaints.{repainted-start, repainted-same, repainted-on, repainted-group}
 use Rattle.frontier.proofs.growing.repaint_all.Statement.{statement}
 use Rattle.frontier.proofs.growing.repaint_all.Tie as tie
@@ -70,13 +69,12 @@ loop-again c =
     let s = start i in
     let n = s .args .n in
     let a = s .args .work .now in
-    let k = i .before .loop .i in
     let u = i .before .loop .inv in
     let b = turn i in (
       repainted-same
-          (λ l. ⊎-elim (λ z. (z .0, z .1, omega (arith, z .2), z .3)) (λ z. (k, u .1, omega arith, sym (b .is) ∙ sym z)))
-          (λ l z. elim (ℕ-discrete (z .0) k) [ yes e ↦ inr (sym (z .3) ∙ ap (plane n 7 a) e ∙ sym (b .is)) | no d ↦ inl (z .0, z .1, omega (arith, z .2), z .3) ])
-          (repainted-on n (Listed n a (s .args .from) k) a (i .before .loop .work) (j .repaint .last .0) _ (b .label) (u .0) (j .repaint .ensures)),
+          (λ l. ⊎-elim (λ z. more-within (u .1) (inl z)) (λ z. more-within (u .1) (inr (sym (b .is) ∙ sym z))))
+          (λ l z. ⊎-elim inl (λ y. inr (sym y ∙ sym (b .is))) (within-more z))
+          (repainted-on n (Listed n a (s .args .from) (i .before .loop .i)) a (i .before .loop .work) (j .repaint .last .0) _ (b .label) (u .0) (j .repaint .ensures)),
       omega (arith, u .1),
       inl (omega (arith, b .turn)),
     )
@@ -85,12 +83,7 @@ same-length : tie.Need-same-length Inv-loop μ-loop
 same-length c = c .before .loop .inv .0 .len
 
 returns : tie.Need-returns Inv-loop μ-loop
-returns c =
-    let u = c .before .loop .inv in
-    repainted-same
-    (λ l z. (z .0, z .1, ⊎-elim (λ y. omega (arith, z .2)) (λ y. let x = z .1 in absurd (omega (arith, z .2))) (u .2), z .3))
-    (λ l z. (z .0, z .1, omega (arith, z .2, c .loop-test .left), z .3))
-    (u .0)
+returns c = let u = c .before .loop .inv in repainted-same (λ l z. within-end (u .2) z) (λ l z. within-to (c .loop-test .left) z) (u .0)
 
 pub repaint-all-spec : {M : Type 1} → statement M
 repaint-all-spec =

@@ -1,121 +1,146 @@
 -- `frontier::judging::judge_beside`: the steps from a place. Assumes nothing.
-use Prim.Native.Nat.{_-_, _*_, _≤_, _<_}
-use mathlib.Core.Path.{_≡_, refl}
-use mathlib.Core.Logic.{inl, inr}
-use native.Mathlib.Decide.{ℕ-discrete}
+use Prim.Native.Nat.{ℕ, suc, _+_, _-_, _≤_}
+use mathlib.Core.Path.{_≡_, sym, _∙_}
+use mathlib.Core.Logic.{_⊎_, ⊎-elim}
+use mathlib.Core.Bool.{true}
+use mathlib.Core.Option.{Option, some}
 use native.Mathlib.Omega.{arith}
 use borrow.Author.Needs.{needs}
-use mir.Syntax.{w32}
-use mir.Val.{SFits}
-use mir.Facts.{toZ-ofZ}
-use Rattle.rules.specs.Regions.{Symmetric}
-use Rattle.rules.specs.Pass.{Rule}
-use Rattle.grid.proofs.Places.{rowsOf, colsOf, hop, step-few, offset-single, off-border, hood-symmetric, hood-complete}
+use Rattle.grid.proofs.Places.{hop, hop-in}
+use Rattle.verdicts.specs.Steps.{areaOf, adjoins}
+use Rattle.verdicts.specs.Groups.{Group}
 use Rattle.verdicts.specs.Judging.{ruleOf}
-use Rattle.frontier.specs.Judging.{Met, Small}
-use Rattle.verdicts.proofs.Votes.{Reached}
-use Rattle.frontier.proofs.Progress.{met-start, met-fewer, met-small}
+use Rattle.verdicts.proofs.Stepping.{WalkTurn, walk-most, walk-turn}
+use Rattle.verdicts.proofs.Votes.{Reached, reached-more, all-reached}
+use Rattle.frontier.specs.Judging.{Met, smallLabel, Small}
+use Rattle.frontier.proofs.Progress.{met-none, met-more, met-as, label-group, met-labelled, met-unlabelled}
 use Rattle.frontier.proofs.judging.judge_beside.Statement.{statement}
 use Rattle.frontier.proofs.judging.judge_beside.Tie as tie
 
 abbrev Inv-loop : tie.InvT-loop
-Inv-loop work₀ h w steps palette k limit max-delta p from border offsets end₀ s₀ work end s = Met (ruleOf h w steps limit palette max-delta) h w steps k (Small (h * w) work₀ (Reached h w p s)) work₀ work from end × (s ≤ steps)
+Inv-loop work₀ grid palette by p from border offsets steps end₀ s₀ work end s = Met (ruleOf grid by palette) grid (by .k) (Small (areaOf grid) work₀ (Reached grid p s)) work₀ work from end × (s ≤ grid .steps)
 
 abbrev μ-loop : tie.MeasureT-loop
-μ-loop work₀ h w steps palette k limit max-delta p from border offsets end₀ s₀ work end s = steps - s
+μ-loop work₀ grid palette by p from border offsets steps end₀ s₀ work end s = 8 - s
 
-abbrev ruled : tie.Start Inv-loop μ-loop → Rule
-ruled s = ruleOf (s .args .h) (s .args .w) (s .args .steps) (s .args .limit) (s .args .palette .now) (s .args .max-delta)
+on-edge-requires : tie.Need-on-edge-requires Inv-loop μ-loop
+on-edge-requires c κs = let s = c .before .before in (s .pre .1, s .pre .0 .0 .sheet .rows, s .pre .0 .0 .sheet .cols)
 
-symm : (s : tie.Start Inv-loop μ-loop) → Symmetric (ruled s .adj)
-unfolding ruleOf
-symm s = hood-symmetric (s .args .steps) (s .pre .0 .0 .sheet .ways) (s .args .w)
+abbrev entered : tie.After-on-edge Inv-loop μ-loop → tie.Start Inv-loop μ-loop
+entered c = c .before .before .before
 
-sized : (s : tie.Start Inv-loop μ-loop) → ruled s .places ≡ s .args .h * s .args .w
-unfolding ruleOf
-sized s = refl
-
-on-border-requires : tie.Need-on-border-requires Inv-loop μ-loop
-on-border-requires c κs = let s = c .before .before in (s .pre .1, s .pre .0 .0 .sheet .rows, s .pre .0 .0 .sheet .cols)
+step-count-requires : tie.Need-step-count-requires Inv-loop μ-loop
+step-count-requires c κs = entered c .pre .0 .0 .sheet .ways
 
 loop-holds : tie.Need-loop-holds Inv-loop μ-loop
-loop-holds c =
-    let s = c .before .before .before in (
-      met-fewer (λ l z. let n = z .named .1 in absurd (omega arith))
-          (met-start (ruled s) (symm s) (s .args .h) (s .args .w) (s .args .steps) (s .args .k) (sized s) (s .args .work .now) (s .pre .0 .0 .sound) (s .args .from) (s .pre .0 .0)),
-      omega arith,
-    )
+loop-holds c = (met-none (entered (c .before) .pre .0 .0) (λ q l z. omega (arith, z .1)), omega arith)
 
-abbrev start : tie.In-loop Inv-loop μ-loop → tie.Start Inv-loop μ-loop
-start c = c .before .before .before .before .before
+abbrev start : tie.At-loop Inv-loop μ-loop → tie.Start Inv-loop μ-loop
+start c = entered (c .before .before)
 
-s-small : (c : tie.In-loop Inv-loop μ-loop) → c .before .loop .s < 8
-s-small c = step-few (start c .args .steps) (start c .pre .0 .0 .sheet .ways) (c .before .loop .s) (c .loop-test .taken)
+-- the walk that a turn belongs to
+abbrev walked : tie.Else1 Inv-loop μ-loop → tie.At-loop Inv-loop μ-loop
+walked c = c .before .before
+
+-- the step in turn
+walk : (c : tie.Else1 Inv-loop μ-loop) → let a = walked c in WalkTurn (start a .args .grid) (start a .args .p) (a .loop .s) (a .before .before .on-edge .result)
+walk c =
+    let a = walked c in
+    let s = start a in
+    walk-turn (s .pre .0 .0 .sheet) (s .pre .1) (a .before .before .on-edge .ensures) (omega (arith, a .loop .inv .1, c .if1 .left, a .before .step-count .ensures))
 
 mul-o : tie.Need-mul-o Inv-loop μ-loop
-mul-o c = omega (arith, s-small c)
+mul-o c = omega (arith, walk c .few)
 
 array-copy-out-o : tie.Need-array-copy-out-o Inv-loop μ-loop
-array-copy-out-o c = omega (arith, s-small c)
+array-copy-out-o c = omega (arith, walk c .few)
 
-array-copy-out-judge-step : tie.Need-array-copy-out-judge-step Inv-loop μ-loop
-array-copy-out-judge-step c = search needs
+array-copy-out-dy : tie.Need-array-copy-out-dy Inv-loop μ-loop
+array-copy-out-dy c = search needs
 
-array-copy-out-judge-step-2 : tie.Need-array-copy-out-judge-step-2 Inv-loop μ-loop
-array-copy-out-judge-step-2 c = search needs
+array-copy-out-dx : tie.Need-array-copy-out-dx Inv-loop μ-loop
+array-copy-out-dx c = search needs
 
--- the step as it is handed over
-rows-fit : (c : tie.After-judge-step-arg3 Inv-loop μ-loop) → SFits w32 (rowsOf (c .before .before .before .before .before .loop .s))
-rows-fit c = record { sfits = c .before .judge-step-arg2 .given }
+abbrev turn : tie.After-small-label-arg Inv-loop μ-loop → tie.Else1 Inv-loop μ-loop
+turn c = c .before .before .before .before
 
-cols-fit : (c : tie.After-judge-step-arg3 Inv-loop μ-loop) → SFits w32 (colsOf (c .before .before .before .before .before .loop .s))
-cols-fit c = record { sfits = c .judge-step-arg3 .given }
+small-label-requires : tie.Need-small-label-requires Inv-loop μ-loop
+small-label-requires c κs = let i = turn c in (walked i .loop .inv .0 .stage .sheet, walk i .one)
 
-judge-step-requires : tie.Need-judge-step-requires Inv-loop μ-loop
-judge-step-requires c κs =
-    let i = c .before .before .before .before in
-    let s = start i in
-    let o = offset-single (i .before .loop .s) (s-small i) in (
-      (i .before .loop .inv .0 .stage, s .pre .0 .1),
-      (s .pre .1, rw (toZ-ofZ (rows-fit c)) (o .0), rw (toZ-ofZ (cols-fit c)) (o .1), off-border (s .args .h) (s .args .w) (s .args .p) (s .pre .1) (i .before .before .on-border .ensures)),
-    )
+-- where the step leads
+abbrev to : tie.At-loop Inv-loop μ-loop → Option ℕ
+to c = let s = start c in hop (s .args .grid .h) (s .args .grid .w) (s .args .p) (c .loop .s)
 
-abbrev turn : tie.After-judge-step Inv-loop μ-loop → tie.In-loop Inv-loop μ-loop
-turn c = c .before .before .before .before .before
+abbrev turned : tie.After-small-label Inv-loop μ-loop → tie.Else1 Inv-loop μ-loop
+turned c = turn (c .before)
+
+-- the walk that a label was read in
+abbrev read-in : tie.After-small-label Inv-loop μ-loop → tie.At-loop Inv-loop μ-loop
+read-in c = walked (turned c)
+
+-- the label that is read
+label-is : (c : tie.After-small-label Inv-loop μ-loop) → let a = read-in c in c .small-label .result ≡ smallLabel (areaOf (start a .args .grid)) (a .loop .work) (to a)
+label-is c = rw (walk (turned c) .lands) at (c .small-label .ensures)
+
+-- it is that of a group
+pub record Named (c : tie.After-small-label Inv-loop μ-loop) : Type 0 where
+  pub label : let a = read-in c in smallLabel (areaOf (start a .args .grid)) (a .loop .work) (to a) ≡ suc (c .small-label .result - 1)
+  pub group : let a = read-in c in Group (areaOf (start a .args .grid)) (a .loop .work) (c .small-label .result - 1)
+
+named : (c : tie.After-small-label Inv-loop μ-loop) → (c .small-label .result ≡ 0 → ⊥) → Named c
+named c z =
+    let a = read-in c in
+    let e : smallLabel (areaOf (start a .args .grid)) (a .loop .work) (to a) ≡ suc (c .small-label .result - 1) = sym (label-is c) ∙ omega arith in
+    record { label = e; group = label-group (a .loop .inv .0 .stage .sheet) (to a) (hop-in _ _ _ _) _ e }
+
+sub-at : tie.Need-sub-at Inv-loop μ-loop
+sub-at c = search needs
+
+judge-requires : tie.Need-judge-requires Inv-loop μ-loop
+judge-requires c κs =
+    let l = c .before .before in
+    let a = read-in l in
+    ((a .loop .inv .0 .stage, start a .pre .0 .1), named l (c .before .if2 .taken) .group)
 
 add-s : tie.Need-add-s Inv-loop μ-loop
-add-s c = omega (arith, s-small (turn (c .before .before)))
+add-s c = omega (arith, walk (turned (c .before)) .few)
 
 loop-less : tie.Need-loop-less Inv-loop μ-loop
-loop-less c = omega (arith, turn (c .before .before) .loop-test .taken)
+loop-less c = omega (arith, walk (turned (c .before)) .few)
+
+-- one step more
+more-steps : (c : tie.At-loop Inv-loop μ-loop) (q : ℕ) → let s = start c in Reached (s .args .grid) (s .args .p) (c .loop .s + 1) q → Reached (s .args .grid) (s .args .p) (c .loop .s) q ⊎ (to c ≡ some q)
+more-steps c q = let s = start c in reached-more (s .args .grid) (s .args .p) (c .loop .s)
 
 loop-again : tie.Need-loop-again Inv-loop μ-loop
-unfolding hop
 loop-again c =
-    let j = c .before .before in
-    let g = j .before in
-    let i = turn j in
-    let s = start i in
-    let at = i .before .loop .s in (
-      met-fewer (λ l z. elim (ℕ-discrete (z .named .0) at) [
-        | yes e ↦ inr (record { place = z .place; named = rw e at (z .named .2); inside = z .inside; little = z .little; label = z .label })
-        | no d ↦ inl (record { place = z .place; named = (z .named .0, omega (arith, z .named .1), z .named .2); inside = z .inside; little = z .little; label = z .label })
-      ])
-          (met-small (ruled s) (symm s) (s .args .h) (s .args .w) (s .args .steps) (s .args .k) (sized s) (s .args .work .now) (i .before .loop .work) (j .judge-step .last .0) (s .pre .0 .0 .sound)
-          (Small (s .args .h * s .args .w) (s .args .work .now) (Reached (s .args .h) (s .args .w) (s .args .p) at)) _ (s .args .from) (i .before .loop .end) (j .judge-step .result) (i .before .loop .inv .0)
-          (rw (toZ-ofZ (rows-fit g), toZ-ofZ (cols-fit g)) at (j .judge-step .ensures))),
-      omega (arith, i .loop-test .taken),
+    let l = c .before in
+    let a = read-in l in
+    let st = start a .pre .0 .0 in
+    let u = a .loop .inv .0 in (
+      ⊎-elim
+          (λ w. let g = named l (w .0 .taken) in rw (w .5, w .6) (met-more st (λ q b. more-steps a q) u (met-labelled (u .stage) (to a) (g .label) (g .group) (w .2 .ensures))))
+          (λ w. rw (w .1, w .2) (met-more st (λ q b. more-steps a q) u (met-unlabelled (u .stage) (to a) (sym (label-is l) ∙ w .0 .left))))
+          (c .if2 .came),
+      omega (arith, a .loop .inv .1, turned l .if1 .left, a .before .step-count .ensures),
     )
 
 same-length : tie.Need-same-length Inv-loop μ-loop
-same-length c = c .before .loop .inv .0 .len
+same-length c = c .before .before .loop .inv .0 .len
+
+same-length-2 : tie.Need-same-length-2 Inv-loop μ-loop
+same-length-2 c = c .before .loop .inv .0 .len
+
+-- once all steps are made
+all : (c : tie.At-loop Inv-loop μ-loop) → let s = start c in s .args .grid .steps ≤ c .loop .s →
+    Met (ruleOf (s .args .grid) (s .args .by) (s .args .palette .now)) (s .args .grid) (s .args .by .k) (Small (areaOf (s .args .grid)) (s .args .work .now) (λ q. adjoins (s .args .grid) (s .args .p) q ≡ true)) (s .args .work .now) (c .loop .work) (s .args .from) (c .loop .end)
+all c e = let s = start c in met-as (λ q l. all-reached (s .args .grid) (s .args .p) (c .loop .s) (s .pre .0 .0 .sheet .ways) e l) (c .loop .inv .0)
 
 returns : tie.Need-returns Inv-loop μ-loop
-returns c =
-    let s = c .before .before .before .before .before in
-    met-fewer (λ l z. let q = hood-complete (s .args .steps) (s .pre .0 .0 .sheet .ways) (s .args .h) (s .args .w) (s .args .p) (z .place) (z .inside) (z .named) in
-    record { place = z .place; named = (q .0, omega (arith, q .1, c .loop-test .left), q .2); inside = z .inside; little = z .little; label = z .label })
-    (c .before .loop .inv .0)
+returns c = let a = c .before .before in all a (omega (arith, c .if1 .taken, a .before .step-count .ensures))
+
+returns-2 : tie.Need-returns-2 Inv-loop μ-loop
+returns-2 c = let a = c .before in all a (omega (arith, c .loop-test .left, walk-most (start a .pre .0 .0 .sheet)))
 
 pub judge-beside-spec : {M : Type 1} → statement M
 judge-beside-spec =
@@ -123,15 +148,20 @@ judge-beside-spec =
     (tie.spec
     Inv-loop
     μ-loop
-    on-border-requires
+    on-edge-requires
+    step-count-requires
     loop-holds
+    same-length
+    returns
     mul-o
     array-copy-out-o
-    array-copy-out-judge-step
-    array-copy-out-judge-step-2
-    judge-step-requires
+    array-copy-out-dy
+    array-copy-out-dx
+    small-label-requires
+    sub-at
+    judge-requires
     add-s
     loop-less
     loop-again
-    same-length
-    returns)
+    same-length-2
+    returns-2)

@@ -1,73 +1,43 @@
 -- `frontier::judging::judge_frontier`: the groups of the log so far. Assumes nothing.
-use Prim.Native.Nat.{ℕ, suc, _-_, _*_, _≤_, _<_}
-use mathlib.Core.Path.{_≡_, refl, sym, ap, _∙_}
-use mathlib.Core.Logic.{inl, inr}
-use mathlib.Core.Bool.{true}
-use mathlib.Core.List.{List}
-use native.Mathlib.Decide.{ℕ-discrete}
+use Prim.Native.Nat.{suc, _-_, _≤_}
+use mathlib.Core.Path.{sym, ap, _∙_}
+use mathlib.Core.Logic.{inl, inr, ⊎-elim}
 use native.Mathlib.Omega.{arith}
-use Rattle.rules.specs.Regions.{Symmetric}
-use Rattle.rules.specs.Pass.{Rule}
-use Rattle.grid.specs.Steps.{hood}
-use Rattle.grid.specs.Planes.{plane}
-use Rattle.grid.proofs.Places.{area, hood-symmetric}
+use Rattle.verdicts.specs.Steps.{areaOf}
 use Rattle.verdicts.specs.Judging.{ruleOf}
-use Rattle.frontier.specs.Judging.{Met, Small}
+use Rattle.verdicts.proofs.Keeping.{sheet-few}
+use Rattle.verdicts.proofs.Spans.{within-more, within-to}
+use Rattle.frontier.specs.Judging.{Met, Small, AroundLogged}
 use Rattle.frontier.proofs.Turns.{LogTurn, log-turn}
-use Rattle.frontier.proofs.Progress.{met-start, met-fewer, met-small, met-group}
+use Rattle.frontier.proofs.Progress.{met-none, met-more, met-as, met-group}
 use Rattle.frontier.proofs.judging.judge_frontier.Statement.{statement}
 use Rattle.frontier.proofs.judging.judge_frontier.Tie as tie
 
--- q neighbours a place of a group of the log from `begin` on and before i
-abbrev Near : ℕ → ℕ → ℕ → List ℕ → ℕ → ℕ → ℕ → Type 0
-Near h w steps a begin i q = (j : ℕ) × (begin ≤ j) × (j < i) × (p : ℕ) × (p < h * w) × (plane (h * w) 1 a p ≡ suc (plane (h * w) 7 a j)) × (hood steps w p q ≡ true)
-
--- what holds before the turn i
-pub record Turn (rule : Rule) (h w steps k begin i : ℕ) (a b : List ℕ) (end mid : ℕ) : Type 0 where
-  pub met : Met rule h w steps k (Small (h * w) a (Near h w steps a begin i)) a b end mid
-  pub low : begin ≤ i
-
 abbrev Inv-loop : tie.InvT-loop
-Inv-loop work₀ h w steps palette k limit max-delta begin end n mid₀ i₀ work mid i = Turn (ruleOf h w steps limit palette max-delta) h w steps k begin i work₀ work end mid
+Inv-loop work₀ grid palette by begin end n mid₀ i₀ work mid i = Met (ruleOf grid by palette) grid (by .k) (Small (areaOf grid) work₀ (AroundLogged grid work₀ begin i)) work₀ work end mid × (begin ≤ i)
 
 abbrev μ-loop : tie.MeasureT-loop
-μ-loop work₀ h w steps palette k limit max-delta begin end n mid₀ i₀ work mid i = end - i
+μ-loop work₀ grid palette by begin end n mid₀ i₀ work mid i = end - i
 
-abbrev ruled : tie.Start Inv-loop μ-loop → Rule
-ruled s = ruleOf (s .args .h) (s .args .w) (s .args .steps) (s .args .limit) (s .args .palette .now) (s .args .max-delta)
-
-symm : (s : tie.Start Inv-loop μ-loop) → Symmetric (ruled s .adj)
-unfolding ruleOf
-symm s = hood-symmetric (s .args .steps) (s .pre .0 .0 .sheet .ways) (s .args .w)
-
-sized : (s : tie.Start Inv-loop μ-loop) → ruled s .places ≡ s .args .h * s .args .w
-unfolding ruleOf
-sized s = refl
-
-few : (s : tie.Start Inv-loop μ-loop) → s .args .h * s .args .w ≤ 264196
-few s = area _ _ (s .pre .0 .0 .sheet .rows) (s .pre .0 .0 .sheet .cols)
+abbrev entered : tie.After-struct-known Inv-loop μ-loop → tie.Start Inv-loop μ-loop
+entered c = c .before .before .before
 
 mul-n : tie.Need-mul-n Inv-loop μ-loop
-mul-n c = omega (arith, few (c .before .before))
+mul-n c = omega (arith, sheet-few (entered c .pre .0 .0 .sheet))
 
 loop-holds : tie.Need-loop-holds Inv-loop μ-loop
-loop-holds c =
-    let s = c .before .before in
-    record {
-      met = met-fewer (λ l y. let a = y .named .1 in let b = y .named .2 in absurd (omega arith))
-          (met-start (ruled s) (symm s) (s .args .h) (s .args .w) (s .args .steps) (s .args .k) (sized s) (s .args .work .now) (s .pre .0 .0 .sound) (s .args .end) (s .pre .0 .0));
-      low = omega arith;
-    }
+loop-holds c = (met-none (entered c .pre .0 .0) (λ q l z. omega (arith, z .1, z .2)), omega arith)
 
 abbrev start : tie.In-loop Inv-loop μ-loop → tie.Start Inv-loop μ-loop
-start c = c .before .before .before .before
+start c = entered (c .before .before)
 
 -- what is read is a group
-turn : (c : tie.In-loop Inv-loop μ-loop) → LogTurn (start c .args .h * start c .args .w) (start c .args .end) (c .before .loop .i) (start c .args .work .now) (c .before .loop .work)
+turn : (c : tie.In-loop Inv-loop μ-loop) → LogTurn (areaOf (start c .args .grid)) (start c .args .end) (c .before .loop .i) (start c .args .work .now) (c .before .loop .work)
 turn c =
     let s = start c in
+    let st = s .pre .0 .0 in
     let u = c .before .loop .inv in
-    log-turn (few s) (s .pre .0 .0 .sheet .room) (omega (arith, s .pre .0 .0 .room)) (c .loop-test .taken) (u .met .len) (λ l. u .met .log .kept _ (c .loop-test .taken)) (s .pre .1 _ (u .low) (c .loop-test .taken))
+    log-turn (sheet-few (st .sheet)) (st .sheet .room) (omega (arith, st .room)) (c .loop-test .taken) (u .0 .len) (λ l. u .0 .log .kept _ (c .loop-test .taken)) (s .pre .1 _ (u .1) (c .loop-test .taken))
 
 mul-at : tie.Need-mul-at Inv-loop μ-loop
 mul-at c = omega (arith, turn c)
@@ -87,9 +57,8 @@ cast-at c = omega (arith, turn (c .before))
 judge-around-requires : tie.Need-judge-around-requires Inv-loop μ-loop
 judge-around-requires c κs =
     let i = c .before .before in
-    let s = start i in
-    let u = i .before .loop .inv .met in
-    ((u .stage, s .pre .0 .1), met-group u (turn i .group))
+    let u = i .before .loop .inv .0 in
+    ((u .stage, start i .pre .0 .1), met-group u (turn i .group))
 
 abbrev turned : tie.After-judge-around Inv-loop μ-loop → tie.In-loop Inv-loop μ-loop
 turned c = c .before .before .before
@@ -104,29 +73,18 @@ loop-again : tie.Need-loop-again Inv-loop μ-loop
 loop-again c =
     let j = c .before .before in
     let i = turned j in
-    let s = start i in
-    let n = s .args .h * s .args .w in
-    let a = s .args .work .now in
-    let at = i .before .loop .i in
-    let u = i .before .loop .inv in
-    let b = turn i in
-    record {
-      met = met-fewer (λ l z. elim (ℕ-discrete (z .named .0) at) [
-        | yes e ↦ inr (record { place = z .place; named = (z .named .3, z .named .4, u .met .same 1 (z .named .3) (omega arith) (z .named .4) ∙ z .named .5 ∙ ap (λ (x : ℕ). suc (plane n 7 a x)) e ∙ ap suc (sym (b .is)), z .named .6); inside = z .inside; little = z .little; label = z .label })
-        | no d ↦ inl (record { place = z .place; named = (z .named .0, z .named .1, omega (arith, z .named .2), z .named .3, z .named .4, z .named .5, z .named .6); inside = z .inside; little = z .little; label = z .label })
-      ])
-          (met-small (ruled s) (symm s) (s .args .h) (s .args .w) (s .args .steps) (s .args .k) (sized s) a (i .before .loop .work) (j .judge-around .last .0) (s .pre .0 .0 .sound)
-          (Small n a (Near (s .args .h) (s .args .w) (s .args .steps) a (s .args .begin) at)) _ (s .args .end) (i .before .loop .mid) (j .judge-around .result) (u .met) (j .judge-around .ensures));
-      low = omega (arith, u .low);
-    }
+    let u = i .before .loop .inv in (
+      met-more (start i .pre .0 .0)
+          (λ q l z. ⊎-elim inl (λ y. inr (y .0, y .1, u .0 .same 1 (y .0) (omega arith) (y .1) ∙ y .2 ∙ ap suc (sym (turn i .is)), y .3)) (within-more z))
+          (u .0) (j .judge-around .ensures),
+      omega (arith, u .1),
+    )
 
 same-length : tie.Need-same-length Inv-loop μ-loop
-same-length c = c .before .loop .inv .met .len
+same-length c = c .before .loop .inv .0 .len
 
 returns : tie.Need-returns Inv-loop μ-loop
-returns c =
-    met-fewer (λ l z. record { place = z .place; named = (z .named .0, z .named .1, omega (arith, z .named .2, c .loop-test .left), z .named .3, z .named .4, z .named .5, z .named .6); inside = z .inside; little = z .little; label = z .label })
-    (c .before .loop .inv .met)
+returns c = met-as (λ q l z. within-to (c .loop-test .left) z) (c .before .loop .inv .0)
 
 pub judge-frontier-spec : {M : Type 1} → statement M
 judge-frontier-spec =

@@ -9,16 +9,16 @@ use Rattle.orphans.proofs.passing.later_passes.Statement.{statement}
 use Rattle.orphans.proofs.passing.later_passes.Tie as tie
 
 abbrev Inv-loop : tie.InvT-loop
-Inv-loop work₀ h w steps palette k limit max-delta first left begin₀ end₀ made₀ work begin end made = LaterPasses (ruleOf h w steps limit palette max-delta) h w steps k left begin end work₀ work made
+Inv-loop work₀ grid palette by first left begin₀ end₀ made₀ work begin end made = LaterPasses (ruleOf grid by palette) grid (by .k) left begin end work₀ work made
 
 abbrev μ-loop : tie.MeasureT-loop
-μ-loop work₀ h w steps palette k limit max-delta first left begin₀ end₀ made₀ work begin end made = left - made
+μ-loop work₀ grid palette by first left begin₀ end₀ made₀ work begin end made = left - made
 
 abbrev start : tie.In-loop Inv-loop μ-loop → tie.Start Inv-loop μ-loop
 start c = c .before .before .before .before
 
 abbrev ruled : tie.Start Inv-loop μ-loop → Rule
-ruled s = ruleOf (s .args .h) (s .args .w) (s .args .steps) (s .args .limit) (s .args .palette .now) (s .args .max-delta)
+ruled s = ruleOf (s .args .grid) (s .args .by) (s .args .palette .now)
 
 abbrev turn : tie.After-later-pass Inv-loop μ-loop → tie.In-loop Inv-loop μ-loop
 turn c = c .before .before
@@ -28,24 +28,24 @@ loop-again c =
     let p = c .before .before .before in
     let i = turn p in
     let s = start i in
-    later-on (ruled s) (s .args .h) (s .args .w) (s .args .steps) (s .args .k) (s .args .left) (s .args .work .now) (i .before .loop .inv) (i .loop-test .taken) (p .later-pass .ensures) (omega (arith, p .later-pass .ensures .rises, c .if1 .left))
+    later-on (ruled s) (s .args .grid) (s .args .by .k) (s .args .left) (s .args .work .now) (i .before .loop .inv) (i .loop-test .taken) (p .later-pass .ensures) (omega (arith, p .later-pass .ensures .rises, c .if1 .left))
 
 returns : tie.Need-returns Inv-loop μ-loop
 returns c =
     let p = c .before .before .before in
     let i = turn p in
     let s = start i in
-    (later-stops (ruled s) (s .args .h) (s .args .w) (s .args .steps) (s .args .k) (s .args .left) (s .args .work .now) (i .before .loop .inv) (i .loop-test .taken) (p .later-pass .ensures) (c .if1 .taken), omega (arith, i .loop-test .taken))
+    (later-stops (ruled s) (s .args .grid) (s .args .by .k) (s .args .left) (s .args .work .now) (i .before .loop .inv) (i .loop-test .taken) (p .later-pass .ensures) (c .if1 .taken), omega (arith, i .loop-test .taken))
 
 returns-2 : tie.Need-returns-2 Inv-loop μ-loop
 returns-2 c =
     let s = c .before .before .before .before in
-    (later-ends (ruled s) (s .args .h) (s .args .w) (s .args .steps) (s .args .k) (s .args .left) (s .args .work .now) (c .before .loop .inv) (c .loop-test .left), omega arith)
+    (later-ends (ruled s) (s .args .grid) (s .args .by .k) (s .args .left) (s .args .work .now) (c .before .loop .inv) (c .loop-test .left), omega arith)
 
 loop-holds : tie.Need-loop-holds Inv-loop μ-loop
 loop-holds c =
     let s = c .before .before in
-    later-start (ruled s) (s .args .h) (s .args .w) (s .args .steps) (s .args .k) (s .args .left) (s .args .work .now) (s .pre .0)
+    later-start (ruled s) (s .args .grid) (s .args .by .k) (s .args .left) (s .args .work .now) (s .pre .0)
 
 later-pass-requires : tie.Need-later-pass-requires Inv-loop μ-loop
 later-pass-requires c κs = let i = c .before in (i .before .loop .inv .at-frontier, start i .pre .1)

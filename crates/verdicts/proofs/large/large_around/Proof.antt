@@ -1,86 +1,67 @@
 -- `verdicts::large::large_around`: none so far. Assumes nothing.
-use Prim.Native.Nat.{ℕ, _+_, _-_, _*_, _≤_, _<_}
+use Prim.Native.Nat.{ℕ, _-_, _≤_, _<_}
 use mathlib.Core.Path.{_≡_, refl}
 use mathlib.Core.Bool.{true}
 use native.Mathlib.Omega.{arith}
-use lib.ListN.{length, getD}
 use Rattle.base.proofs.Counting.{clash}
 use Rattle.rules.specs.Grid.{eight}
 use Rattle.grid.specs.Planes.{plane}
-use Rattle.grid.proofs.Planes.{plane-read}
+use Rattle.verdicts.proofs.Spans.{SpanTurn, span-turn}
 use Rattle.verdicts.proofs.Nearby.{around-more}
 use Rattle.verdicts.proofs.large.large_around.Statement.{statement}
 use Rattle.verdicts.proofs.large.large_around.Tie as tie
 
 abbrev Inv-loop : tie.InvT-loop
-Inv-loop work n w from to i₀ i = ((j : ℕ) → from ≤ j → j < i → (q : ℕ) → eight w (plane n 2 work j) q ≡ true → plane n 5 work q ≡ 0) × (from ≤ i) × (i ≤ to)
+Inv-loop work n w i₀ i-end i = ((j : ℕ) → i₀ ≤ j → j < i → (q : ℕ) → eight w (plane n 2 work j) q ≡ true → plane n 5 work q ≡ 0) × (i₀ ≤ i)
 
 abbrev μ-loop : tie.MeasureT-loop
-μ-loop work n w from to i₀ i = to - i
+μ-loop work n w i₀ i-end i = i-end - i
 
 loop-holds : tie.Need-loop-holds Inv-loop μ-loop
-loop-holds c = ((λ j lo hi. absurd (omega arith)), omega arith, c .before .pre .0 .3)
+loop-holds c = ((λ j lo hi. absurd (omega arith)), omega arith)
 
 abbrev start : tie.In-loop Inv-loop μ-loop → tie.Start Inv-loop μ-loop
 start c = c .before .before .before
 
-abbrev place : tie.In-loop Inv-loop μ-loop → ℕ
-place c = getD (start c .args .work .now) (2 * start c .args .n + c .before .loop .i) 0
-
-place-is : (c : tie.In-loop Inv-loop μ-loop) → place c ≡ plane (start c .args .n) 2 (start c .args .work .now) (c .before .loop .i)
-place-is c = let s = start c in plane-read (s .args .n) 2 (c .before .loop .i) (2 * s .args .n + c .before .loop .i) (s .args .work .now) (omega arith)
-
-pub record Bounds (c : tie.In-loop Inv-loop μ-loop) : Type 0 where
-  pub inside : place c < start c .args .n
-  pub few : start c .args .n ≤ 264196
-  pub room : 8 * start c .args .n ≤ length (start c .args .work .now)
-  pub end : start c .args .to ≤ start c .args .n
-  pub turn : c .before .loop .i < start c .args .to
-
-bounds : (c : tie.In-loop Inv-loop μ-loop) → Bounds c
-bounds c =
-    let s = start c in
-    record {
-      inside = rw (place-is c) (s .pre .1 (c .before .loop .i) (c .before .loop .inv .1) (c .loop-test .taken));
-      few = s .pre .0 .1;
-      room = s .pre .0 .0;
-      end = s .pre .0 .4;
-      turn = c .loop-test .taken;
-    }
+-- the place in turn
+turn : (c : tie.In-loop Inv-loop μ-loop) → SpanTurn (start c .args .n) (c .before .loop .i) (start c .args .span) (start c .args .work .now) (start c .args .work .now)
+turn c = let s = start c in span-turn (s .pre .1) (s .pre .0) (s .pre .3) refl (λ q l. refl) (c .before .loop .inv .1) (c .loop-test .taken)
 
 mul-p : tie.Need-mul-p Inv-loop μ-loop
-mul-p c = omega (arith, bounds c)
+mul-p c = omega (arith, turn c)
 
 add-p : tie.Need-add-p Inv-loop μ-loop
-add-p c = omega (arith, bounds c)
+add-p c = omega (arith, turn c)
 
 mul-p-2 : tie.Need-mul-p-2 Inv-loop μ-loop
-mul-p-2 c = omega (arith, bounds c)
+mul-p-2 c = omega (arith, turn c)
 
 shared-slice-read-p : tie.Need-shared-slice-read-p Inv-loop μ-loop
-shared-slice-read-p c = omega (arith, bounds (c .before))
+shared-slice-read-p c = omega (arith, turn (c .before))
 
 cast-p : tie.Need-cast-p Inv-loop μ-loop
-cast-p c = omega (arith, bounds (c .before))
+cast-p c = omega (arith, turn (c .before))
 
 large-near-requires : tie.Need-large-near-requires Inv-loop μ-loop
-large-near-requires c κs = let i = c .before in let s = start i in (s .pre .0 .0, s .pre .0 .1, s .pre .0 .2, bounds i .inside)
+large-near-requires c κs = let i = c .before in let s = start i in (s .pre .0, s .pre .1, s .pre .2, turn i .place)
 
 returns : tie.Need-returns Inv-loop μ-loop
 returns c = (λ e. clash refl e)
 
+abbrev turned : tie.Else1 Inv-loop μ-loop → tie.In-loop Inv-loop μ-loop
+turned c = c .before .before .before
+
 add-i : tie.Need-add-i Inv-loop μ-loop
-add-i c = omega (arith, bounds (c .before .before .before))
+add-i c = omega (arith, turn (turned c))
 
 loop-less : tie.Need-loop-less Inv-loop μ-loop
-loop-less c = omega (arith, bounds (c .before .before .before))
+loop-less c = omega (arith, turn (turned c))
 
 loop-again : tie.Need-loop-again Inv-loop μ-loop
 loop-again c =
-    let a = c .before in
-    let i = a .before .before in
+    let i = turned c in
     let s = start i in
-    (around-more (s .args .n) (s .args .w) (s .args .work .now) (s .args .from) (i .before .loop .i) (place i) (place-is i) (i .before .loop .inv .0) (a .large-near .ensures (c .if1 .left)), omega (arith, i .before .loop .inv .1), omega (arith, bounds i))
+    (around-more (s .args .n) (s .args .w) (s .args .work .now) (s .args .span .from) (i .before .loop .i) _ (turn i .is) (i .before .loop .inv .0) (c .before .large-near .ensures (c .if1 .left)), omega (arith, turn i))
 
 returns-2 : tie.Need-returns-2 Inv-loop μ-loop
 returns-2 c = (λ z j lo hi. c .before .loop .inv .0 j lo (omega (arith, c .loop-test .left)))

@@ -51,13 +51,15 @@ returns-3 c = (λ e. clash refl e)
 
 returns-4 : tie.Need-returns-4
 returns-4 c =
-    let s = c .before .before .before .before .before .before in
+    let two = c .before .before in
+    let one = two .before .before in
+    let s = one .before .before in
     let n = s .args .n in
     let q = s .args .q in
     let a = s .args .work .now in
     (λ z. row-each (λ x. plane n 5 a x ≡ 0) q
-    (sym (plane-read n 5 q (5 * n + q) a (omega arith)) ∙ c .before .before .before .before .if1 .left)
-    (sym (plane-read n 5 (q + 1) (5 * n + q + 1) a (omega arith)) ∙ c .before .before .if2 .left)
+    (sym (plane-read n 5 q (5 * n + q) a (omega arith)) ∙ one .if1 .left)
+    (sym (plane-read n 5 (q + 1) (5 * n + q + 1) a (omega arith)) ∙ two .if2 .left)
     (sym (plane-read n 5 (q + 2) (5 * n + q + 2) a (omega arith)) ∙ c .if3 .left))
 
 pub large-in-row-spec : {M : Type 1} → statement M

@@ -4,7 +4,7 @@ use native.Mathlib.Omega.{arith}
 use Prim.Native.Nat.{_<_}
 use Rattle.verdicts.specs.declared.target.Target.the-variants.{Nothing, Index}
 use Rattle.verdicts.specs.declared.target.Target.{Target}
-use Rattle.verdicts.specs.Choice.{apart, decision, choice}
+use Rattle.verdicts.specs.Choice.{entryDistance, decision, choice}
 use Rattle.verdicts.proofs.Choosing.{nearest-below, choice-none, choice-some, decision-none}
 use borrow.Author.Needs.{needs}
 use Rattle.verdicts.proofs.target.choice.Statement.{statement}
@@ -16,7 +16,7 @@ most-requires c κs = search needs
 returns : tie.Need-returns
 returns c =
     let s = c .before .before .before in
-    choice-none (apart (s .args .palette .now) (s .args .own)) (s .args .counts .now) (s .args .k) (c .before .most .result) (s .args .max-delta)
+    choice-none (entryDistance (s .args .palette .now) (s .args .own)) (s .args .counts .now) (s .args .k) (c .before .most .result) (s .args .max-delta)
     (c .before .most .ensures) (c .if1 .taken)
 
 nearest-requires : tie.Need-nearest-requires
@@ -29,11 +29,11 @@ enum-told : tie.Need-enum-told
 enum-told c = search needs
 
 -- what a target comes to
-chosen : (c : tie.After-nearest) (t : Target) → t ≡ c .nearest .result → decision t (c .before .before .before .before .args .max-delta) ≡ choice (apart (c .before .before .before .before .args .palette .now) (c .before .before .before .before .args .own)) (c .before .before .before .before .args .counts .now) (c .before .before .before .before .args .k) (c .before .before .before .before .args .max-delta)
+chosen : (c : tie.After-nearest) (t : Target) → t ≡ c .nearest .result → decision t (c .before .before .before .before .args .max-delta) ≡ choice (entryDistance (c .before .before .before .before .args .palette .now) (c .before .before .before .before .args .own)) (c .before .before .before .before .args .counts .now) (c .before .before .before .before .args .k) (c .before .before .before .before .args .max-delta)
 chosen c t e =
     let m = c .before .before in
     let s = m .before .before in
-    choice-some (apart (s .args .palette .now) (s .args .own)) (s .args .counts .now) (s .args .k) (m .most .result) (s .args .max-delta)
+    choice-some (entryDistance (s .args .palette .now) (s .args .own)) (s .args .counts .now) (s .args .k) (m .most .result) (s .args .max-delta)
     (m .most .ensures) (c .before .if1 .left) t (e ∙ c .nearest .ensures)
 
 returns-2 : tie.Need-returns-2
@@ -47,7 +47,7 @@ few : (c : tie.After-c) → c .c .given .0 .0 < 256
 few c =
     let a = c .before .before in
     let s = a .before .before .before .before in
-    let l : c .c .given .0 .0 < s .args .k = nearest-below (apart (s .args .palette .now) (s .args .own)) (s .args .counts .now) (a .before .before .most .result) (s .args .k) (c .c .given .0 .0) (c .c .given .0 .1 .0) (sym (a .nearest .ensures) ∙ c .c .given .1) in
+    let l : c .c .given .0 .0 < s .args .k = nearest-below (entryDistance (s .args .palette .now) (s .args .own)) (s .args .counts .now) (a .before .before .most .result) (s .args .k) (c .c .given .0 .0) (c .c .given .0 .1 .0) (sym (a .nearest .ensures) ∙ c .c .given .1) in
     omega (arith, s .pre .0)
 
 decide-requires : tie.Need-decide-requires

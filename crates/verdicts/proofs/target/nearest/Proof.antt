@@ -4,13 +4,13 @@ use mathlib.Core.Logic.{⊎-elim}
 use Prim.Native.Nat.{_-_, _≤_}
 use native.Mathlib.Omega.{arith}
 use Rattle.color.specs.Lab.{entry, distance}
-use Rattle.verdicts.specs.Choice.{apart, nearer, nearest}
+use Rattle.verdicts.specs.Choice.{entryDistance, nearer, nearest}
 use Rattle.verdicts.proofs.Choosing.{nearest-start, nearest-more, nearest-same}
 use Rattle.verdicts.proofs.target.nearest.Statement.{statement}
 use Rattle.verdicts.proofs.target.nearest.Tie as tie
 
 abbrev Inv-loop : tie.InvT-loop
-Inv-loop counts m palette k own from best₀ c₀ best c = (best ≡ nearest (apart palette own) counts m c) × (c ≤ k)
+Inv-loop counts m palette k own from best₀ c₀ best c = (best ≡ nearest (entryDistance palette own) counts m c) × (c ≤ k)
 
 abbrev μ-loop : tie.MeasureT-loop
 μ-loop counts m palette k own from best₀ c₀ best c = k - c
@@ -43,7 +43,7 @@ loop-less : tie.Need-loop-less Inv-loop μ-loop
 loop-less c = omega arith
 
 loop-again : tie.Need-loop-again Inv-loop μ-loop
-unfolding apart
+unfolding entryDistance
 loop-again c =
     let l = c .before .before .before in
     let s = l .before .before .before in
@@ -53,17 +53,17 @@ loop-again c =
     (λ w. (
       w .4 ∙ w .3 .ensures
           ∙ ap (nearer (l .loop .best) i) (w .2 .ensures ∙ ap₂ distance (l .before .entry .ensures) (w .1 .ensures))
-          ∙ nearest-more (apart u (s .args .own)) (s .args .counts .now) (s .args .m) i (l .loop .best) (l .loop .inv .0) (w .0 .taken),
+          ∙ nearest-more (entryDistance u (s .args .own)) (s .args .counts .now) (s .args .m) i (l .loop .best) (l .loop .inv .0) (w .0 .taken),
       omega arith,
     ))
-    (λ w. (w .1 ∙ nearest-same (apart u (s .args .own)) (s .args .counts .now) (s .args .m) i (l .loop .best) (l .loop .inv .0) (w .0 .left), omega arith))
+    (λ w. (w .1 ∙ nearest-same (entryDistance u (s .args .own)) (s .args .counts .now) (s .args .m) i (l .loop .best) (l .loop .inv .0) (w .0 .left), omega arith))
     (c .if1 .came)
 
 returns : tie.Need-returns Inv-loop μ-loop
 returns c =
     let s = c .before .before .before .before in
     let e : c .before .loop .c ≡ s .args .k = omega arith in
-    c .before .loop .inv .0 ∙ ap (nearest (apart (s .args .palette .now) (s .args .own)) (s .args .counts .now) (s .args .m)) e
+    c .before .loop .inv .0 ∙ ap (nearest (entryDistance (s .args .palette .now) (s .args .own)) (s .args .counts .now) (s .args .m)) e
 
 pub nearest-spec : {M : Type 1} → statement M
 nearest-spec =

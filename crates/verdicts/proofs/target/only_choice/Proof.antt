@@ -6,12 +6,12 @@ use borrow.Author.Needs.{needs}
 use lib.Ieee.{lt}
 use Rattle.color.specs.declared.Lab.{Lab}
 use Rattle.color.specs.Lab.{distance}
-use Rattle.verdicts.specs.Choice.{apart, decision}
+use Rattle.verdicts.specs.Choice.{entryDistance, decision}
 use Rattle.verdicts.proofs.target.only_choice.Statement.{statement}
 use Rattle.verdicts.proofs.target.only_choice.Tie as tie
 
 returns : tie.Need-returns
-unfolding apart decision
+unfolding entryDistance decision
 returns c =
     let d = c .before in
     let e = d .before in

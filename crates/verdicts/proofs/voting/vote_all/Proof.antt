@@ -1,104 +1,107 @@
 -- `verdicts::voting::vote_all`: the steps from a place. Assumes nothing.
-use Prim.Native.Nat.{_-_, _*_, _≤_, _<_}
-use mathlib.Core.Path.{_≡_}
+use Prim.Native.Nat.{_-_, _≤_}
+use mathlib.Core.Path.{_≡_, sym, _∙_}
+use mathlib.Core.Bool.{true}
 use native.Mathlib.Omega.{arith}
 use borrow.Author.Needs.{needs}
-use mir.Syntax.{w32}
-use mir.Val.{SFits}
-use mir.Facts.{toZ-ofZ}
-use Rattle.grid.proofs.Places.{rowsOf, colsOf, hop, step-few, offset-single, off-border}
+use Rattle.verdicts.specs.Steps.{areaOf, adjoins}
 use Rattle.verdicts.specs.Polling.{Polled}
-use Rattle.verdicts.proofs.Keeping.{sheet-votes, sheet-polled}
+use Rattle.verdicts.proofs.Stepping.{WalkTurn, walk-most, walk-turn}
+use Rattle.verdicts.proofs.Keeping.{sheet-polled}
 use Rattle.verdicts.proofs.Votes.{Reached, reach-start, reach-on, reach-all}
 use Rattle.verdicts.proofs.voting.vote_all.Statement.{statement}
 use Rattle.verdicts.proofs.voting.vote_all.Tie as tie
 
 abbrev Inv-loop : tie.InvT-loop
-Inv-loop work₀ h w steps p mark counts₀ border offsets k₀ work counts k = Polled (h * w) mark (Reached h w p k) work₀ work counts × (k ≤ steps)
+Inv-loop work₀ grid p mark counts₀ border offsets steps s₀ work counts s = Polled (areaOf grid) mark (Reached grid p s) work₀ work counts × (s ≤ grid .steps)
 
 abbrev μ-loop : tie.MeasureT-loop
-μ-loop work₀ h w steps p mark counts₀ border offsets k₀ work counts k = steps - k
+μ-loop work₀ grid p mark counts₀ border offsets steps s₀ work counts s = 8 - s
 
 marked : (s : tie.Start Inv-loop μ-loop) → s .args .mark ≡ 0 → ⊥
-marked s e = omega (arith, s .pre .1 .0 .1)
+marked s e = omega (arith, s .pre .0 .2)
 
-on-border-requires : tie.Need-on-border-requires Inv-loop μ-loop
-on-border-requires c κs = let s = c .before in (s .pre .1 .0 .0, s .pre .0 .rows, s .pre .0 .cols)
+on-edge-requires : tie.Need-on-edge-requires Inv-loop μ-loop
+on-edge-requires c κs = let s = c .before in (s .pre .0 .1, s .pre .0 .0 .rows, s .pre .0 .0 .cols)
+
+step-count-requires : tie.Need-step-count-requires Inv-loop μ-loop
+step-count-requires c κs = c .before .before .pre .0 .0 .ways
 
 loop-holds : tie.Need-loop-holds Inv-loop μ-loop
-loop-holds c =
-    let s = c .before .before in
-    (reach-start (s .args .h) (s .args .w) (s .args .steps) (s .args .mark) (s .args .p) (marked s) (s .args .work .now) (s .args .counts .now) (s .pre .1 .1), omega arith)
+loop-holds c = let s = c .before .before .before in (reach-start (s .args .grid) (s .args .mark) (s .args .p) (marked s) (s .args .work .now) (s .args .counts .now) (s .pre .1), omega arith)
 
-abbrev start : tie.In-loop Inv-loop μ-loop → tie.Start Inv-loop μ-loop
+abbrev start : tie.At-loop Inv-loop μ-loop → tie.Start Inv-loop μ-loop
 start c = c .before .before .before .before
 
-k-small : (c : tie.In-loop Inv-loop μ-loop) → c .before .loop .k < 8
-k-small c = step-few (start c .args .steps) (start c .pre .0 .ways) (c .before .loop .k) (c .loop-test .taken)
+-- the walk that a turn belongs to
+abbrev walked : tie.Else1 Inv-loop μ-loop → tie.At-loop Inv-loop μ-loop
+walked c = c .before .before
+
+-- the step in turn
+walk : (c : tie.Else1 Inv-loop μ-loop) → let a = walked c in WalkTurn (start a .args .grid) (start a .args .p) (a .loop .s) (a .before .before .on-edge .result)
+walk c =
+    let a = walked c in
+    let s = start a in
+    walk-turn (s .pre .0 .0) (s .pre .0 .1) (a .before .before .on-edge .ensures) (omega (arith, a .loop .inv .1, c .if1 .left, a .before .step-count .ensures))
 
 mul-o : tie.Need-mul-o Inv-loop μ-loop
-mul-o c = omega (arith, k-small c)
+mul-o c = omega (arith, walk c .few)
 
 array-copy-out-o : tie.Need-array-copy-out-o Inv-loop μ-loop
-array-copy-out-o c = omega (arith, k-small c)
+array-copy-out-o c = omega (arith, walk c .few)
 
-array-copy-out-vote : tie.Need-array-copy-out-vote Inv-loop μ-loop
-array-copy-out-vote c = search needs
+array-copy-out-dy : tie.Need-array-copy-out-dy Inv-loop μ-loop
+array-copy-out-dy c = search needs
 
-array-copy-out-vote-2 : tie.Need-array-copy-out-vote-2 Inv-loop μ-loop
-array-copy-out-vote-2 c = search needs
+array-copy-out-dx : tie.Need-array-copy-out-dx Inv-loop μ-loop
+array-copy-out-dx c = search needs
 
--- the step as it is handed over
-rows-fit : (c : tie.After-vote-arg4 Inv-loop μ-loop) → SFits w32 (rowsOf (c .before .before .before .before .before .before .loop .k))
-rows-fit c = record { sfits = c .before .before .vote-arg2 .given }
-
-cols-fit : (c : tie.After-vote-arg4 Inv-loop μ-loop) → SFits w32 (colsOf (c .before .before .before .before .before .before .loop .k))
-cols-fit c = record { sfits = c .before .vote-arg3 .given }
+abbrev turn : tie.After-dx Inv-loop μ-loop → tie.Else1 Inv-loop μ-loop
+turn c = c .before .before .before
 
 vote-requires : tie.Need-vote-requires Inv-loop μ-loop
 vote-requires c κs =
-    let i = c .before .before .before .before .before in
-    let s = start i in
-    let u = i .before .loop .inv .0 in
-    let d = sheet-polled (marked s) u (s .pre .0) in
-    let o = offset-single (i .before .loop .k) (k-small i) in
-    let l = s .pre .1 .0 .0 in (
-      sheet-votes d,
-      (
-        (l, d .rows, d .cols, s .pre .1 .0 .1),
-        (
-          (rw (toZ-ofZ (rows-fit c)) (o .0), rw (toZ-ofZ (cols-fit c)) (o .1), off-border (s .args .h) (s .args .w) (s .args .p) (s .pre .1 .0 .0) (i .before .before .on-border .ensures)),
-          u .tally,
-        ),
-      ),
-    )
+    let i = turn (c .before .before) in
+    let a = walked i in
+    let s = start a in
+    let u = a .loop .inv .0 in
+    ((sheet-polled (marked s) u (s .pre .0 .0), walk i .one, s .pre .0 .2), u .tally)
 
-add-k : tie.Need-add-k Inv-loop μ-loop
-add-k c = omega (arith, k-small (c .before .before .before .before .before .before .before .before))
+abbrev turned : tie.After-vote Inv-loop μ-loop → tie.Else1 Inv-loop μ-loop
+turned c = turn (c .before .before .before)
+
+add-s : tie.Need-add-s Inv-loop μ-loop
+add-s c = omega (arith, walk (turned (c .before .before)) .few)
 
 loop-less : tie.Need-loop-less Inv-loop μ-loop
-loop-less c = omega (arith, c .before .before .before .before .before .before .before .before .loop-test .taken)
+loop-less c = omega (arith, walk (turned (c .before .before)) .few)
 
 loop-again : tie.Need-loop-again Inv-loop μ-loop
-unfolding hop
 loop-again c =
     let v = c .before .before in
-    let a = v .before in
-    let i = a .before .before .before .before .before in
-    let s = start i in (
-      reach-on (s .args .h) (s .args .w) (s .args .steps) (s .args .mark) (s .args .p) (marked s) (i .before .loop .counts) _ (i .before .loop .k) (i .before .loop .inv .0)
-          (rw (toZ-ofZ (rows-fit a), toZ-ofZ (cols-fit a)) at (v .vote .ensures)),
-      omega (arith, i .loop-test .taken),
+    let i = turned v in
+    let a = walked i in
+    let s = start a in (
+      reach-on (s .args .grid) (s .args .mark) (s .args .p) (marked s) (a .loop .counts) _ (a .loop .s) (a .loop .inv .0) (rw (walk i .lands) at (v .vote .ensures)),
+      omega (arith, a .loop .inv .1, i .if1 .left, a .before .step-count .ensures),
     )
 
 same-length : tie.Need-same-length Inv-loop μ-loop
-same-length c = c .before .loop .inv .0 .kept .len
+same-length c = c .before .before .loop .inv .0 .kept .len
+
+same-length-2 : tie.Need-same-length-2 Inv-loop μ-loop
+same-length-2 c = c .before .loop .inv .0 .kept .len
+
+-- once all steps are made
+all : (c : tie.At-loop Inv-loop μ-loop) → let s = start c in s .args .grid .steps ≡ c .loop .s →
+    Polled (areaOf (s .args .grid)) (s .args .mark) (λ q. adjoins (s .args .grid) (s .args .p) q ≡ true) (s .args .work .now) (c .loop .work) (c .loop .counts)
+all c e = let s = start c in reach-all (s .args .grid) (s .args .mark) (s .args .p) (marked s) (c .loop .s) (s .pre .0 .0 .ways) e (c .loop .inv .0)
 
 returns : tie.Need-returns Inv-loop μ-loop
-returns c =
-    let s = c .before .before .before .before in
-    reach-all (s .args .h) (s .args .w) (s .args .steps) (s .args .mark) (s .args .p) (marked s) (c .before .loop .k) (s .pre .0 .ways)
-    (omega (arith, c .before .loop .inv .1, c .loop-test .left)) (c .before .loop .inv .0)
+returns c = let a = c .before .before in all a (sym (c .if1 .taken ∙ a .before .step-count .ensures))
+
+returns-2 : tie.Need-returns-2 Inv-loop μ-loop
+returns-2 c = let a = c .before in all a (omega (arith, a .loop .inv .1, c .loop-test .left, walk-most (start a .pre .0 .0)))
 
 pub vote-all-spec : {M : Type 1} → statement M
 vote-all-spec =
@@ -106,15 +109,18 @@ vote-all-spec =
     (tie.spec
     Inv-loop
     μ-loop
-    on-border-requires
+    on-edge-requires
+    step-count-requires
     loop-holds
+    same-length
+    returns
     mul-o
     array-copy-out-o
-    array-copy-out-vote
-    array-copy-out-vote-2
+    array-copy-out-dy
+    array-copy-out-dx
     vote-requires
-    add-k
+    add-s
     loop-less
     loop-again
-    same-length
-    returns)
+    same-length-2
+    returns-2)
