@@ -12,9 +12,9 @@ use lib.Signed.{nonNeg}
 use borrow.Author.Tests.{ne-eqb}
 use Rattle.base.proofs.Counting.{case, clash, left, right, not-true, eqb-yes, yes-eqb}
 use Rattle.rules.specs.Sheet.{Sheet}
-use Rattle.rules.specs.Corners.{Corner, one, minusOne, corners, same, finds, opposite, arms, around, goesOn, isCorner, trimmedBy}
+use Rattle.rules.specs.Corners.{Corner, corners, same, look, finds, opposite, arms, around, goesOn, isCorner, trimmedBy}
 use Rattle.grid.specs.Planes.{paintOf, cellOf}
-use Rattle.jaggies.specs.Rows.{OnBoth, Sign, way, found, cut, toward}
+use Rattle.jaggies.specs.Rows.{OnBoth, Sign, way, seen, cut, toward}
 use Rattle.jaggies.proofs.Steps.{same-paint, finds-paint}
 
 -- ---- a paint on two sides
@@ -110,21 +110,21 @@ toward-sign next a = case (eqb next a) (λ y. rw y (inr refl)) (λ z. rw z (inl 
 
 -- at a corner of a cell of the paint a the arms have it, and the cells across from them do not
 pub record Sided (s : Sheet) (p : ℕ) (c : Corner) (a : ℕ) : Type 0 where
-  pub beside : paintOf (found s p (pos 0) (c .sx)) ≡ a
-  pub across : paintOf (found s p (pos 0) (negℤ (c .sx))) ≡ a → ⊥
-  pub along : paintOf (found s p (c .sy) (pos 0)) ≡ a
-  pub behind : paintOf (found s p (negℤ (c .sy)) (pos 0)) ≡ a → ⊥
+  pub beside : seen (look s p (pos 0) (c .sx)) ≡ a
+  pub across : seen (look s p (pos 0) (negℤ (c .sx))) ≡ a → ⊥
+  pub along : seen (look s p (c .sy) (pos 0)) ≡ a
+  pub behind : seen (look s p (negℤ (c .sy)) (pos 0)) ≡ a → ⊥
 
 module _ (s : Sheet) (p : ℕ) (a : ℕ) (la : 0 < a) where
-  finds-yes : (dy dx : ℤ) → finds s p dy dx (cellOf a) ≡ true → paintOf (found s p dy dx) ≡ a
+  finds-yes : (dy dx : ℤ) → finds s p dy dx (cellOf a) ≡ true → seen (look s p dy dx) ≡ a
   finds-yes dy dx e = eqb-yes (finds-paint s p dy dx a la ∙ e)
 
   -- a step that finds another index does not find a
-  finds-other : (dy dx z : ℤ) → nonNeg z ≡ true → same z (cellOf a) ≡ false → finds s p dy dx z ≡ true → paintOf (found s p dy dx) ≡ a → ⊥
+  finds-other : (dy dx z : ℤ) → nonNeg z ≡ true → same z (cellOf a) ≡ false → finds s p dy dx z ≡ true → seen (look s p dy dx) ≡ a → ⊥
   finds-other dy dx z o n e f =
       let lz : 0 < paintOf z = solid-paint z o in
       let g : finds s p dy dx (cellOf (paintOf z)) ≡ true = rw (cell-paint z o) e in
-      let q : paintOf (found s p dy dx) ≡ paintOf z = eqb-yes (finds-paint s p dy dx (paintOf z) lz ∙ g) in
+      let q : seen (look s p dy dx) ≡ paintOf z = eqb-yes (finds-paint s p dy dx (paintOf z) lz ∙ g) in
       clash (same-paint z a la ∙ yes-eqb (sym q ∙ f)) n
 
   -- the parts of the rule that say so
@@ -183,50 +183,50 @@ module _ (s : Sheet) (p : ℕ) (a : ℕ) (la : 0 < a) where
   abbrev corner : ℤ → ℤ → ℕ
   corner sy sx = cut s p (way sy sx) (cellOf a)
 
-  by-four : paintOf (trimmedBy s p corners (cellOf a)) ≡ orElse (corner minusOne minusOne) (orElse (corner minusOne one) (orElse (corner one minusOne) (orElse (corner one one) a)))
+  by-four : paintOf (trimmedBy s p corners (cellOf a)) ≡ orElse (corner (negsuc 0) (negsuc 0)) (orElse (corner (negsuc 0) (pos 1)) (orElse (corner (pos 1) (negsuc 0)) (orElse (corner (pos 1) (pos 1)) a)))
   unfolding corners
   by-four = rw (by-next, by-next, by-next, by-next, by-none)
 
   -- by the paints of the four cells beside, above and below
-  module _ (l r u d : ℕ) (el : l ≡ paintOf (found s p (pos 0) minusOne)) (er : r ≡ paintOf (found s p (pos 0) one))
-      (eu : u ≡ paintOf (found s p minusOne (pos 0))) (ed : d ≡ paintOf (found s p one (pos 0))) where
-    not-left : (sy : ℤ) → (l ≡ a → r ≡ a) → corner sy minusOne ≡ 0
-    not-left sy f = no-corner (way sy minusOne) (λ k. k .across (sym er ∙ f (el ∙ k .beside)))
+  module _ (l r u d : ℕ) (el : l ≡ seen (look s p (pos 0) (negsuc 0))) (er : r ≡ seen (look s p (pos 0) (pos 1)))
+      (eu : u ≡ seen (look s p (negsuc 0) (pos 0))) (ed : d ≡ seen (look s p (pos 1) (pos 0))) where
+    not-left : (sy : ℤ) → (l ≡ a → r ≡ a) → corner sy (negsuc 0) ≡ 0
+    not-left sy f = no-corner (way sy (negsuc 0)) (λ k. k .across (sym er ∙ f (el ∙ k .beside)))
 
-    not-right : (sy : ℤ) → (r ≡ a → l ≡ a) → corner sy one ≡ 0
-    not-right sy f = no-corner (way sy one) (λ k. k .across (sym el ∙ f (er ∙ k .beside)))
+    not-right : (sy : ℤ) → (r ≡ a → l ≡ a) → corner sy (pos 1) ≡ 0
+    not-right sy f = no-corner (way sy (pos 1)) (λ k. k .across (sym el ∙ f (er ∙ k .beside)))
 
-    not-up : (sx : ℤ) → (u ≡ a → d ≡ a) → corner minusOne sx ≡ 0
-    not-up sx f = no-corner (way minusOne sx) (λ k. k .behind (sym ed ∙ f (eu ∙ k .along)))
+    not-up : (sx : ℤ) → (u ≡ a → d ≡ a) → corner (negsuc 0) sx ≡ 0
+    not-up sx f = no-corner (way (negsuc 0) sx) (λ k. k .behind (sym ed ∙ f (eu ∙ k .along)))
 
-    not-down : (sx : ℤ) → (d ≡ a → u ≡ a) → corner one sx ≡ 0
-    not-down sx f = no-corner (way one sx) (λ k. k .behind (sym eu ∙ f (ed ∙ k .along)))
+    not-down : (sx : ℤ) → (d ≡ a → u ≡ a) → corner (pos 1) sx ≡ 0
+    not-down sx f = no-corner (way (pos 1) sx) (λ k. k .behind (sym eu ∙ f (ed ∙ k .along)))
 
     -- its paint on both sides or on neither: no corner
     pub level : OnBoth l r a → a ≡ paintOf (trimmedBy s p corners (cellOf a))
     unfolding orElse
     level k =
-        sym (by-four ∙ rw (not-left minusOne (k .there), not-right minusOne (k .back), not-left one (k .there), not-right one (k .back)))
+        sym (by-four ∙ rw (not-left (negsuc 0) (k .there), not-right (negsuc 0) (k .back), not-left (pos 1) (k .there), not-right (pos 1) (k .back)))
 
     pub upright : OnBoth u d a → a ≡ paintOf (trimmedBy s p corners (cellOf a))
     unfolding orElse
     upright k =
-        sym (by-four ∙ rw (not-up minusOne (k .there), not-up one (k .there), not-down minusOne (k .back), not-down one (k .back)))
+        sym (by-four ∙ rw (not-up (negsuc 0) (k .there), not-up (pos 1) (k .there), not-down (negsuc 0) (k .back), not-down (pos 1) (k .back)))
 
     -- else the one corner that it can be
     pub turned : orElse (corner (toward d a) (toward r a)) a ≡ paintOf (trimmedBy s p corners (cellOf a))
     unfolding toward orElse
     turned = sym (by-four ∙ pick)
       where
-        pick : orElse (corner minusOne minusOne) (orElse (corner minusOne one) (orElse (corner one minusOne) (orElse (corner one one) a))) ≡ orElse (corner (toward d a) (toward r a)) a
+        pick : orElse (corner (negsuc 0) (negsuc 0)) (orElse (corner (negsuc 0) (pos 1)) (orElse (corner (pos 1) (negsuc 0)) (orElse (corner (pos 1) (pos 1)) a))) ≡ orElse (corner (toward d a) (toward r a)) a
         pick = case (eqb d a)
             (λ y. case (eqb r a)
             (λ x. let e : r ≡ a = eqb-yes x in let f : d ≡ a = eqb-yes y in
-            rw (y, x, not-left minusOne (λ z. e), not-up one (λ z. f), not-left one (λ z. e)))
+            rw (y, x, not-left (negsuc 0) (λ z. e), not-up (pos 1) (λ z. f), not-left (pos 1) (λ z. e)))
             (λ x. let n : r ≡ a → l ≡ a = (λ z. clash (yes-eqb z) x) in let f : d ≡ a = eqb-yes y in
-            rw (y, x, not-up minusOne (λ z. f), not-right minusOne n, not-right one n)))
+            rw (y, x, not-up (negsuc 0) (λ z. f), not-right (negsuc 0) n, not-right (pos 1) n)))
             (λ y. let m : d ≡ a → u ≡ a = (λ z. clash (yes-eqb z) y) in case (eqb r a)
             (λ x. let e : r ≡ a = eqb-yes x in
-            rw (y, x, not-left minusOne (λ z. e), not-left one (λ z. e), not-down one m))
+            rw (y, x, not-left (negsuc 0) (λ z. e), not-left (pos 1) (λ z. e), not-down (pos 1) m))
             (λ x. let n : r ≡ a → l ≡ a = (λ z. clash (yes-eqb z) x) in
-            rw (y, x, not-right minusOne n, not-down minusOne m, not-down one m)))
+            rw (y, x, not-right (negsuc 0) n, not-down (negsuc 0) m, not-down (pos 1) m)))

@@ -2,4 +2,3 @@ pub mod Signs
 pub mod Steps
 pub mod Cuts
 pub mod Rows
-pub mod Answers

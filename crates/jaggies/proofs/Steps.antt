@@ -1,6 +1,6 @@
 -- What a step from a spot finds, by paint. Assumes nothing.
 use Prim.Native.Nat.{ℕ, zero, suc, _+_, _*_, _/_, _%_, _≤_, _<_}
-use mathlib.Core.Path.{_≡_, sym, _∙_}
+use mathlib.Core.Path.{_≡_, refl, sym, ap, _∙_}
 use mathlib.Core.Bool.{true, false}
 use mathlib.Core.List.{List}
 use mathlib.Core.Option.{Option, none, some}
@@ -8,17 +8,17 @@ use native.Mathlib.Nat.{mul-le-mul-right, add-mul, div-add-mod'}
 use native.Mathlib.Omega.{arith}
 use borrow.Author.Tests.{ne-eqb}
 use lib.Dec.{eqb}
-use lib.IntN.{ℤ, pos, negsuc}
+use lib.IntN.{ℤ, pos, negsuc, negℤ}
 use lib.Signed.{leZ}
 use lib.Seq.{getD-take}
 use Rattle.base.proofs.Counting.{same-test, eqb-yes, yes-eqb, leb-yes}
 use Rattle.rules.specs.Sheet.{Sheet, sheetOf}
 use Rattle.rules.specs.Regions.{at}
 use Rattle.rules.specs.Grid.{stepTo}
-use Rattle.rules.specs.Corners.{same, finds, minusOne}
+use Rattle.rules.specs.Corners.{Corner, same, look, finds, opposite}
 use Rattle.grid.specs.Planes.{paintOf, cellOf}
 use Rattle.grid.proofs.Places.{row-of, col-of, Shifted, Found, step-sound}
-use Rattle.jaggies.specs.Rows.{Short, found}
+use Rattle.jaggies.specs.Rows.{Short, seen}
 
 -- a cell is an opaque one exactly if it has its paint
 pub same-paint : (z : ℤ) (a : ℕ) → 0 < a → same z (cellOf a) ≡ eqb (paintOf z) a
@@ -43,23 +43,29 @@ module _ (old : List ℤ) (h w y x : ℕ) (lx : x < w) (dy dx : ℤ) where
   from-place : stepTo h w ((y * w + x) / w) ((y * w + x) % w) dy dx ≡ stepTo h w y x dy dx
   from-place = rw (row-of w y x lx, col-of w y x lx)
 
-  pub found-off : stepTo h w y x dy dx ≡ none → 0 ≡ paintOf (found (sheetOf old h w) (y * w + x) dy dx)
-  unfolding found sheetOf paintOf
-  found-off e = rw (from-place ∙ e, found)
+  pub look-off : stepTo h w y x dy dx ≡ none → 0 ≡ seen (look (sheetOf old h w) (y * w + x) dy dx)
+  unfolding look seen sheetOf
+  look-off e = rw (from-place ∙ e, look)
 
-  pub found-on : (q : ℕ) → q < h * w → stepTo h w y x dy dx ≡ some q → found (sheetOf old h w) (y * w + x) dy dx ≡ at old q
-  unfolding found sheetOf at
-  found-on q l e = rw (from-place ∙ e, found) (getD-take (h * w) old q (negsuc 0) l)
+  pub look-on : (q : ℕ) → q < h * w → stepTo h w y x dy dx ≡ some q → paintOf (at old q) ≡ seen (look (sheetOf old h w) (y * w + x) dy dx)
+  unfolding look seen sheetOf at
+  look-on q l e = rw (from-place ∙ e, look) (ap paintOf (sym (getD-take (h * w) old q (negsuc 0) l)))
 
-no-paint : (a : ℕ) → 0 < a → eqb (paintOf minusOne) a ≡ false
-unfolding paintOf
-no-paint a l = ne-eqb 0 a (omega arith)
+module _ (s : Sheet) (p : ℕ) where
+  -- a step finds an opaque cell exactly if it finds its paint
+  pub finds-paint : (dy dx : ℤ) (a : ℕ) → 0 < a → eqb (seen (look s p dy dx)) a ≡ finds s p dy dx (cellOf a)
+  unfolding finds seen
+  finds-paint dy dx a l = go (look s p dy dx)
+    where
+      go : (o : Option ℤ) → eqb (seen o) a ≡ elim o [ none ↦ false | some b ↦ same b (cellOf a) ]
+      go none = ne-eqb 0 a (omega arith)
+      go (some b) = sym (same-paint b a l)
 
--- a step finds an opaque cell exactly if it finds its paint
-pub finds-paint : (s : Sheet) (p : ℕ) (dy dx : ℤ) (a : ℕ) → 0 < a → eqb (paintOf (found s p dy dx)) a ≡ finds s p dy dx (cellOf a)
-unfolding found finds
-finds-paint s p dy dx a l = go (stepTo (s .height) (s .width) (p / s .width) (p % s .width) dy dx)
-  where
-    go : (o : Option ℕ) → eqb (paintOf (elim o [ none ↦ minusOne | some q ↦ at (s .cells) q ])) a ≡ elim o [ none ↦ false | some q ↦ same (at (s .cells) q) (cellOf a) ]
-    go none = no-paint a l
-    go (some q) = sym (same-paint (at (s .cells) q) a l)
+  -- the cell opposite a corner, by paint
+  pub opposite-paint : (c : Corner) → seen (look s p (negℤ (c .sy)) (negℤ (c .sx))) ≡ paintOf (opposite s p c)
+  unfolding opposite seen paintOf
+  opposite-paint c = go (look s p (negℤ (c .sy)) (negℤ (c .sx)))
+    where
+      go : (o : Option ℤ) → seen o ≡ paintOf (elim o [ none ↦ negsuc 0 | some b ↦ b ])
+      go none = refl
+      go (some b) = refl

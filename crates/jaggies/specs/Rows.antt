@@ -1,11 +1,11 @@
 -- What corner trimming reads while it writes over the sheet: the rows that it may still test stand in the work area as they were,
 -- three of them at most, the last of which ends before the place `end`; all rows past them are untouched. Definitions only. Assumes nothing.
-use Prim.Native.Nat.{ℕ, _+_, _-_, _*_, _/_, _%_, _≤_, _<_}
+use Prim.Native.Nat.{ℕ, _+_, _-_, _*_, _≤_, _<_}
 use mathlib.Core.Path.{_≡_}
 use mathlib.Core.Logic.{_⊎_}
 use mathlib.Core.Bool.{true, cond}
 use mathlib.Core.List.{List}
-use mathlib.Core.Option.{none, some}
+use mathlib.Core.Option.{Option, none, some}
 use lib.Dec.{eqb, ltb}
 use lib.IntN.{ℤ, pos, negsuc}
 use lib.Signed.{leZ}
@@ -13,8 +13,7 @@ use lib.ListN.{length, getD}
 use Rattle.base.specs.Outputs.{filled}
 use Rattle.rules.specs.Sheet.{Sheet, sheetOf}
 use Rattle.rules.specs.Regions.{at}
-use Rattle.rules.specs.Grid.{stepTo}
-use Rattle.rules.specs.Corners.{Corner, isCorner, opposite, trimmed, one, minusOne}
+use Rattle.rules.specs.Corners.{Corner, isCorner, opposite, trimmed}
 use Rattle.grid.specs.Planes.{paintOf}
 use Rattle.jaggies.specs.declared.Spot.{Spot}
 
@@ -83,10 +82,10 @@ pub record Short (d : ℤ) : Type 0 where
   pub low : leZ (negsuc 1) d ≡ true
   pub high : leZ d (pos 2) ≡ true
 
--- the cell that a step from p finds; off the grid a transparent one stands in
-unfoldable pub found : Sheet → ℕ → ℤ → ℤ → ℤ
-found s p dy dx =
-    elim (stepTo (s .height) (s .width) (p / s .width) (p % s .width) dy dx) [ none ↦ minusOne | some q ↦ at (s .cells) q ]
+-- the paint of the cell that a step finds; 0 if there is none
+unfoldable pub seen : Option ℤ → ℕ
+seen none = 0
+seen (some a) = paintOf a
 
 -- the corner that points so
 abbrev pub way : ℤ → ℤ → Corner
@@ -94,7 +93,7 @@ way sy sx = record { sy = sy; sx = sx }
 
 -- one place on or one place back
 abbrev pub Sign : ℤ → Type 0
-Sign z = (z ≡ minusOne) ⊎ (z ≡ one)
+Sign z = (z ≡ negsuc 0) ⊎ (z ≡ pos 1)
 
 -- sy and sx point a corner
 pub record Way (sy sx : ℤ) : Type 0 where
@@ -107,7 +106,7 @@ cut s p c a = cond (isCorner s p c a (opposite s p c)) (paintOf (opposite s p c)
 
 -- the way from a cell of the paint a to an arm: on, if the next cell that way has the paint too, else back
 unfoldable pub toward : ℕ → ℕ → ℤ
-toward next a = cond (eqb next a) one minusOne
+toward next a = cond (eqb next a) (pos 1) (negsuc 0)
 
 -- the paint a stands on both of two sides or on neither
 pub record OnBoth (x y a : ℕ) : Type 0 where

@@ -1,20 +1,21 @@
 // Corner trimming: the jagged corners of one-cell staircases. The sheet is written over from its first row on; the rows that a test
 // may still read, as they were, stand in the first 3 * w numbers of the work area: 0 for a transparent cell, index + 1 otherwise.
 use base::Filling;
-use checks::too_large;
 use grid::Step;
 use grid::neighbour;
+use refusals::sheet_refusal;
 ghost use mathlib.Core.Path.{_≡_};
 ghost use mathlib.Core.Bool.{false};
 ghost use mathlib.Core.List.{List};
 ghost use Prim.Native.Nat.{ℕ, _+_, _-_, _*_, _≤_, _<_};
 ghost use lib.IntN.{ℤ};
 ghost use lib.ListN.{length, getD};
-ghost use Rattle.rules.specs.Sheet.{sheetOf, over};
-ghost use Rattle.rules.specs.Corners.{finds, arms, around, goesOn, corners, trimmedBy, trim};
+ghost use Rattle.rules.specs.Sheet.{lentSheet, sheetOf, over};
+ghost use Rattle.rules.specs.Calls.{JaggiesCall};
+ghost use Rattle.rules.specs.Corners.{look, finds, arms, around, goesOn, corners, trimmedBy, trim};
 ghost use Rattle.rules.specs.Entries.{jaggiesAnswer, jaggiesCells};
 ghost use Rattle.grid.specs.Planes.{paintOf, cellOf};
-ghost use Rattle.jaggies.specs.Rows.{placeOf, endOf, spot, most, paintAt, Room, Held, Trimmed, Moved, Short, Way, way, found, Sees, cut, toward, OnBoth};
+ghost use Rattle.jaggies.specs.Rows.{placeOf, endOf, spot, most, paintAt, Room, Held, Trimmed, Moved, Short, Way, way, seen, Sees, cut, toward, OnBoth};
 
 // Row y and column x of a sheet of h rows of w cells.
 struct Spot {
@@ -49,7 +50,7 @@ fn was(cells: &[i32], work: &[u32], w: usize, end: usize, q: usize) -> u32
 // The paint of the cell that a step from a spot finds; off the grid it is 0.
 fn look(cells: &[i32], work: &[u32], at: Spot, dy: i32, dx: i32) -> u32
     requires { ⌜ Room (now cells) (now work) at × Short dy × Short dx ⌝ }
-    ensures { λ r. ⌜ Sees (now (cells .entry)) (now (work .entry)) at r (λ s p. paintOf (found s p dy dx)) ⌝ }
+    ensures { λ r. ⌜ Sees (now (cells .entry)) (now (work .entry)) at r (λ s p. seen (look s p dy dx)) ⌝ }
     ensures { λ r. ⌜ r ≤ most ⌝ }
 {
     let Step::Cell(q) = neighbour(at.y, at.x, dy, dx, at.h, at.w) else {
@@ -228,18 +229,11 @@ pub fn trim_sheet(cells: &mut [i32], h: usize, w: usize, work: &mut [u32])
 
 // Corner trimming over the lent cells. Below 4 rows or columns nothing changes. The work area holds 8 numbers for each cell.
 pub fn fix_jaggies(cells: &mut [i32], h: usize, w: usize, work: &mut [u32]) -> Filling
-    ensures { λ r. ⌜ r ≡ jaggiesAnswer (now (cells .entry)) h w (length (now (work .entry))) ⌝ }
-    ensures { λ r. ⌜ now (cells .exit) ≡ jaggiesCells (now (cells .entry)) h w (length (now (work .entry))) ⌝ }
+    ensures { λ r. ⌜ (let call : JaggiesCall = record { lent = lentSheet (now (cells .entry)) h w (length (now (work .entry))) } in
+        (r ≡ jaggiesAnswer call) × (now (cells .exit) ≡ jaggiesCells call)) ⌝ }
 {
-    if too_large(h, w) {
-        return Filling::Refused(1);
-    }
-    let n = h * w;
-    if cells.len() < n {
-        return Filling::Refused(2);
-    }
-    if work.len() < 8 * n {
-        return Filling::Refused(3);
+    if let Filling::Refused(row) = sheet_refusal(h, w, false, cells.len(), work.len()) {
+        return Filling::Refused(row);
     }
     trim_sheet(cells, h, w, work);
     Filling::Done

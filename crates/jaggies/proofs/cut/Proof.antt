@@ -12,8 +12,9 @@ use Rattle.base.proofs.Counting.{both}
 use Rattle.rules.specs.Sheet.{Sheet, sheetOf}
 use Rattle.rules.specs.Corners.{Corner, opposite, arms, around, goesOn}
 use Rattle.grid.specs.Planes.{paintOf, cellOf}
-use Rattle.jaggies.specs.Rows.{placeOf, way, Way, Shown, found, cut}
+use Rattle.jaggies.specs.Rows.{placeOf, way, Way, Shown, cut}
 use Rattle.jaggies.proofs.Signs.{on, back, back-short, back-fits}
+use Rattle.jaggies.proofs.Steps.{opposite-paint}
 use Rattle.jaggies.proofs.Cuts.{cut-clear, cut-same, cut-by}
 use Rattle.jaggies.proofs.cut.Statement.{statement}
 use Rattle.jaggies.proofs.cut.Tie as tie
@@ -40,8 +41,7 @@ start c = c .before .before .before .before
 -- ---- what each call tells
 
 look-tells : (c : tie.After-look) (old : List ℤ) → let s = c .before .before in Seen s old → c .look .result ≡ paintOf (By s old opposite)
-unfolding opposite found
-look-tells c old seen = let w = c .before .before .pre .1 in rw (back (w .rows), back (w .cols)) at (c .look .ensures .0 old seen)
+look-tells c old seen = let w = c .before .before .pre .1 in (rw (back (w .rows), back (w .cols)) at (c .look .ensures .0 old seen)) ∙ opposite-paint _ _ _
 
 arms-tells : (c : tie.After-arms) (old : List ℤ) → let s = start (c .before) in Seen s old → c .arms .result ≡ By s old arms (cellOf (s .args .a))
 arms-tells c old seen = let w = start (c .before) .pre .1 in rw (on (w .rows), on (w .cols)) at (c .arms .ensures old seen)
@@ -51,10 +51,13 @@ around-tells : (c : tie.After-around) (old : List ℤ) →
     let s = start q in Seen s old → c .around .result ≡ By s old around (cellOf (q .before .before .look .result))
 around-tells c old seen = let w = start (c .before .before .before) .pre .1 in rw (on (w .rows), on (w .cols)) at (c .around .ensures old seen)
 
+abbrev surrounded : tie.Else4 → tie.Else2
+surrounded c = c .before .before .before .before
+
 goes-on-tells : (c : tie.After-goes-on) (old : List ℤ) →
-    let s = start (c .before .before .before .before .before) in Seen s old → c .goes-on .result ≡ By s old goesOn (cellOf (s .args .a))
+    let s = start (surrounded (c .before)) in Seen s old → c .goes-on .result ≡ By s old goesOn (cellOf (s .args .a))
 goes-on-tells c old seen =
-    let w = start (c .before .before .before .before .before) .pre .1 in rw (on (w .rows), on (w .cols)) at (c .goes-on .ensures old seen)
+    let w = start (surrounded (c .before)) .pre .1 in rw (on (w .rows), on (w .cols)) at (c .goes-on .ensures old seen)
 
 -- past the first two tests the other three decide
 rest : (c : tie.Else2) (old : List ℤ) →
@@ -67,7 +70,7 @@ rest c old seen =
 
 -- arms and surroundings are right
 held : (c : tie.Else4) (old : List ℤ) →
-    let q = c .before .before .before .before in
+    let q = surrounded c in
     let s = start q in
     Seen s old → (By s old arms (cellOf (s .args .a)) && By s old around (cellOf (q .before .before .look .result))) ≡ true
 held c old seen =
@@ -100,13 +103,13 @@ returns-4 : tie.Need-returns-4
 returns-4 c = (λ old seen. let q = c .before .before in rest (q .before .before) old seen false (rw (sym (arms-tells (q .before) old seen) ∙ not-false _ (q .if3 .left), sym (around-tells (c .before) old seen) ∙ not-true _ (c .if4 .taken))), omega arith)
 
 goes-on-requires : tie.Need-goes-on-requires
-goes-on-requires c κs = let s = start (c .before .before .before .before) in (s .pre .0, same-way s, s .pre .2)
+goes-on-requires c κs = let s = start (surrounded c) in (s .pre .0, same-way s, s .pre .2)
 
 returns-5 : tie.Need-returns-5
-returns-5 c = (λ old seen. let h = c .before .before in rest (h .before .before .before .before) old seen false (rw (held h old seen) (sym (goes-on-tells (c .before) old seen) ∙ not-true _ (c .if5 .taken))), omega arith)
+returns-5 c = (λ old seen. let h = c .before .before in rest (surrounded h) old seen false (rw (held h old seen) (sym (goes-on-tells (c .before) old seen) ∙ not-true _ (c .if5 .taken))), omega arith)
 
 returns-6 : tie.Need-returns-6
-returns-6 c = (λ old seen. let h = c .before .before in rest (h .before .before .before .before) old seen true (rw (held h old seen) (sym (goes-on-tells (c .before) old seen) ∙ not-false _ (c .if5 .left))), omega arith)
+returns-6 c = (λ old seen. let h = c .before .before in rest (surrounded h) old seen true (rw (held h old seen) (sym (goes-on-tells (c .before) old seen) ∙ not-false _ (c .if5 .left))), omega arith)
 
 pub cut-spec : {M : Type 1} → statement M
 cut-spec =

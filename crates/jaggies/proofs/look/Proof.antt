@@ -1,15 +1,14 @@
 -- `look` meets its contract: where its step leads, it reads what stood there. Assumes nothing.
 use Prim.Native.Nat.{_+_, _*_, _≤_, _<_}
-use mathlib.Core.Path.{_≡_, sym, ap, _∙_}
+use mathlib.Core.Path.{_≡_, sym, _∙_}
 use mathlib.Core.Option.{some}
 use native.Mathlib.Omega.{arith}
 use borrow.Author.Needs.{needs}
 use mir.Facts.{toZ-ofZ}
 use Rattle.rules.specs.Grid.{stepTo}
 use Rattle.grid.specs.Steps.{stepOf}
-use Rattle.grid.specs.Planes.{paintOf}
 use Rattle.grid.proofs.Places.{place-in, area, step-cell, step-off}
-use Rattle.jaggies.proofs.Steps.{in-reach, found-off, found-on}
+use Rattle.jaggies.proofs.Steps.{in-reach, look-off, look-on}
 use Rattle.jaggies.proofs.look.Statement.{statement}
 use Rattle.jaggies.proofs.look.Tie as tie
 
@@ -35,7 +34,7 @@ returns : tie.Need-returns
 returns c =
     let n = c .before .before in
     let s = n .before .before in
-    (λ old shown. found-off old _ _ _ _ (s .pre .0 .col) _ _ (step-off (sym (step n) ∙ c .enum-told .given .1)), omega arith)
+    (λ old shown. look-off old _ _ _ _ (s .pre .0 .col) _ _ (step-off (sym (step n) ∙ c .enum-told .given .1)), omega arith)
 
 abbrev start : tie.After-known-told → tie.Start
 start c = c .before .before .before .before .before
@@ -71,7 +70,7 @@ returns-2 c =
     let t = c .before .before .before in
     let s = start t in
     let b = bounds t in (
-      λ old shown. c .was .ensures .0 ∙ shown .paint _ (b .3) (b .2) ∙ ap paintOf (sym (found-on old _ _ _ _ (s .pre .0 .col) _ _ _ (b .2) (leads t))),
+      λ old shown. c .was .ensures .0 ∙ shown .paint _ (b .3) (b .2) ∙ look-on old _ _ _ _ (s .pre .0 .col) _ _ _ (b .2) (leads t),
       c .was .ensures .1,
     )
 

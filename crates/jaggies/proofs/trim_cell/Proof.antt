@@ -49,11 +49,14 @@ trimmed-requires c κs =
     let small = s .pre .paints .small (placeOf (s .args .at)) (omega (arith, s .pre)) (omega arith) in
     (s .pre, omega (arith, c .before .if1), rw (stands s) at small)
 
+abbrev start : tie.After-trimmed → tie.Start
+start c = c .before .before .before .before .before
+
 mul-p : tie.Need-mul-p
-mul-p c = omega (arith, inside (c .before .before .before .before .before .before))
+mul-p c = omega (arith, inside (start (c .before)))
 
 add-p : tie.Need-add-p
-add-p c = omega (arith, inside (c .before .before .before .before .before .before))
+add-p c = omega (arith, inside (start (c .before)))
 
 sub-cells : tie.Need-sub-cells
 sub-cells c = search needs
@@ -62,10 +65,10 @@ cast-cells : tie.Need-cast-cells
 cast-cells c = search needs
 
 mul-t10 : tie.Need-mul-t10
-mul-t10 c = omega (arith, inside (c .before .before .before .before .before .before))
+mul-t10 c = omega (arith, inside (start (c .before)))
 
 slice-set-from-cells : tie.Need-slice-set-from-cells
-slice-set-from-cells c = let s = c .before .before .before .before .before .before in omega (arith, inside s, s .pre)
+slice-set-from-cells c = let s = start (c .before) in omega (arith, inside s, s .pre)
 
 same-length : tie.Need-same-length
 same-length c = search needs

@@ -26,7 +26,7 @@ trim-cell-requires c κs =
     same-room (l .before .loop .inv .same) (l .before .before .before .pre (l .before .loop .x) (l .loop-test .taken))
 
 add-x : tie.Need-add-x Inv-loop μ-loop
-add-x c = omega (arith, c .before .before .before .before .before .before .fits .w)
+add-x c = let l = c .before .before .before in omega (arith, l .before .before .before .fits .w)
 
 loop-less : tie.Need-loop-less Inv-loop μ-loop
 loop-less c = omega arith
