@@ -16,31 +16,31 @@ use Rattle.rules.specs.Sheet.{Sheet, sheetOf}
 use Rattle.rules.specs.Regions.{at, opaque}
 use Rattle.rules.specs.Outline.{touches, paddedAt, padded, hasRing}
 use Rattle.grid.proofs.Places.{row-of, col-of, place-in}
-use Rattle.outline.specs.Room.{fromOne, inside}
+use Rattle.outline.specs.Room.{fromOne, onSheet}
 use Rattle.outline.specs.Rows.{stretch}
 use Rattle.outline.proofs.Places.{front-at, row-on}
 use Rattle.outline.proofs.Fillings.{Span, span-none, span-before, span-filled, stretch-span, row-more, row-ends, filled-front}
 use Rattle.outline.proofs.Edges.{Edge, top, bottom, start, end, Touching, touching}
 use Rattle.outline.proofs.Rings.{Beside, above, below, leftward, rightward, ring-yes, ring-found}
 
-pub inside-yes : (h w y x : ℕ) → inside h w y x ≡ true → (1 ≤ y) × (y ≤ h) × (1 ≤ x) × (x ≤ w)
-unfolding inside fromOne
-inside-yes h w y x e =
+pub on-sheet-yes : (h w y x : ℕ) → onSheet h w y x ≡ true → (1 ≤ y) × (y ≤ h) × (1 ≤ x) × (x ≤ w)
+unfolding onSheet fromOne
+on-sheet-yes h w y x e =
     let a = left (leb 1 y && leb y h) (leb 1 x && leb x w) e in
     let b = right (leb 1 y && leb y h) (leb 1 x && leb x w) e in
     (leb-yes (left _ (leb y h) a), leb-yes (right (leb 1 y) _ a), leb-yes (left _ (leb x w) b), leb-yes (right (leb 1 x) _ b))
 
-pub yes-inside : (h w y x : ℕ) → 1 ≤ y → y ≤ h → 1 ≤ x → x ≤ w → inside h w y x ≡ true
-unfolding inside fromOne
-yes-inside h w y x a b c d = both (both (yes-leb a) (yes-leb b)) (both (yes-leb c) (yes-leb d))
+pub yes-on-sheet : (h w y x : ℕ) → 1 ≤ y → y ≤ h → 1 ≤ x → x ≤ w → onSheet h w y x ≡ true
+unfolding onSheet fromOne
+yes-on-sheet h w y x a b c d = both (both (yes-leb a) (yes-leb b)) (both (yes-leb c) (yes-leb d))
 
 regrouped : (a b c : Bool) → (a && b && c) ≡ (a && (b && c))
 regrouped true b c = refl
 regrouped false b c = refl
 
 pub padded-at : (s : Sheet) (y x : ℕ) → x < s .width + 2
-    → paddedAt s (y * (s .width + 2) + x) ≡ cond (inside (s .height) (s .width) y x) (at (s .cells) ((y - 1) * s .width + (x - 1))) (negsuc 0)
-unfolding paddedAt inside fromOne
+    → paddedAt s (y * (s .width + 2) + x) ≡ cond (onSheet (s .height) (s .width) y x) (at (s .cells) ((y - 1) * s .width + (x - 1))) (negsuc 0)
+unfolding paddedAt onSheet fromOne
 padded-at s y x h =
     rw (row-of (s .width + 2) y x h, col-of (s .width + 2) y x h)
     (ap (λ (b : Bool). cond b (at (s .cells) ((y - 1) * s .width + (x - 1))) (negsuc 0)) (regrouped (leb 1 y && leb y (s .height)) (leb 1 x) (leb x (s .width))))
@@ -48,9 +48,9 @@ padded-at s y x h =
 -- ---- written in place
 
 -- the cell that code writes
-pub cell-padded : (l : List ℤ) (h w y x : ℕ) → x < w + 2 → cond (inside h w y x) (at l ((y - 1) * w + (x - 1))) (negsuc 0) ≡ paddedAt (sheetOf l h w) (y * (w + 2) + x)
+pub cell-padded : (l : List ℤ) (h w y x : ℕ) → x < w + 2 → cond (onSheet h w y x) (at l ((y - 1) * w + (x - 1))) (negsuc 0) ≡ paddedAt (sheetOf l h w) (y * (w + 2) + x)
 unfolding sheetOf
-cell-padded l h w y x lx = case (inside h w y x) (λ e. rw e (same (inside-yes h w y x e))) (λ z. rw z) ∙ sym (padded-at (sheetOf l h w) y x lx)
+cell-padded l h w y x lx = case (onSheet h w y x) (λ e. rw e (same (on-sheet-yes h w y x e))) (λ z. rw z) ∙ sym (padded-at (sheetOf l h w) y x lx)
   where
     same : (1 ≤ y) × (y ≤ h) × (1 ≤ x) × (x ≤ w) → at l ((y - 1) * w + (x - 1)) ≡ at (take (h * w) l) ((y - 1) * w + (x - 1))
     same b = sym (front-at (h * w) l ((y - 1) * w + (x - 1)) (place-in h w (y - 1) (x - 1) (omega arith) (omega arith)))
@@ -60,7 +60,7 @@ pub padded-same : (l m : List ℤ) (h w y x : ℕ) → x < w + 2 → ((q : ℕ) 
     → paddedAt (sheetOf m h w) (y * (w + 2) + x) ≡ paddedAt (sheetOf l h w) (y * (w + 2) + x)
 unfolding at
 padded-same l m h w y x lx low =
-    sym (cell-padded m h w y x lx) ∙ case (inside h w y x) (λ e. rw e (low ((y - 1) * w + (x - 1)) (under (inside-yes h w y x e)))) (λ z. rw z) ∙ cell-padded l h w y x lx
+    sym (cell-padded m h w y x lx) ∙ case (onSheet h w y x) (λ e. rw e (low ((y - 1) * w + (x - 1)) (under (on-sheet-yes h w y x e)))) (λ z. rw z) ∙ cell-padded l h w y x lx
   where
     under : (1 ≤ y) × (y ≤ h) × (1 ≤ x) × (x ≤ w) → (y - 1) * w + (x - 1) < y * (w + 2)
     under b =
@@ -120,7 +120,7 @@ sheet-padded l h w = ap (λ (c : List ℤ). record { cells = c; height = h + 2; 
 
 module _ (s : Sheet) where
   cell-of : (y x : ℕ) → y < s .height + 2 → x < s .width + 2
-      → opaque (padded s .cells) (y * (s .width + 2) + x) ≡ nonNeg (cond (inside (s .height) (s .width) y x) (at (s .cells) ((y - 1) * s .width + (x - 1))) (negsuc 0))
+      → opaque (padded s .cells) (y * (s .width + 2) + x) ≡ nonNeg (cond (onSheet (s .height) (s .width) y x) (at (s .cells) ((y - 1) * s .width + (x - 1))) (negsuc 0))
   unfolding padded opaque at
   cell-of y x ly lx =
       ap nonNeg (table-at ((s .height + 2) * (s .width + 2)) (paddedAt s) (negsuc 0) (y * (s .width + 2) + x) (place-in (s .height + 2) (s .width + 2) y x ly lx)
@@ -131,17 +131,17 @@ module _ (s : Sheet) where
   inner v u lv lu o =
       let e : (v + 1 - 1) * s .width + (u + 1 - 1) ≡ v * s .width + u = simp-one v u in
       cell-of (v + 1) (u + 1) (omega arith) (omega arith)
-      ∙ ap (λ (b : Bool). nonNeg (cond b (at (s .cells) ((v + 1 - 1) * s .width + (u + 1 - 1))) (negsuc 0))) (yes-inside (s .height) (s .width) (v + 1) (u + 1) (omega arith) (omega arith) (omega arith) (omega arith))
+      ∙ ap (λ (b : Bool). nonNeg (cond b (at (s .cells) ((v + 1 - 1) * s .width + (u + 1 - 1))) (negsuc 0))) (yes-on-sheet (s .height) (s .width) (v + 1) (u + 1) (omega arith) (omega arith) (omega arith) (omega arith))
       ∙ ap (λ (i : ℕ). nonNeg (at (s .cells) i)) e
       ∙ o
     where
       simp-one : (a b : ℕ) → (a + 1 - 1) * s .width + (b + 1 - 1) ≡ a * s .width + b
       simp-one a b = let i : a + 1 - 1 ≡ a = omega arith in let j : b + 1 - 1 ≡ b = omega arith in rw (i, j)
 
-  border : (y x : ℕ) → y < s .height + 2 → x < s .width + 2 → (inside (s .height) (s .width) y x ≡ true → ⊥) → opaque (padded s .cells) (y * (s .width + 2) + x) ≡ false
+  border : (y x : ℕ) → y < s .height + 2 → x < s .width + 2 → (onSheet (s .height) (s .width) y x ≡ true → ⊥) → opaque (padded s .cells) (y * (s .width + 2) + x) ≡ false
   border y x ly lx n =
       cell-of y x ly lx
-      ∙ ap (λ (b : Bool). nonNeg (cond b (at (s .cells) ((y - 1) * s .width + (x - 1))) (negsuc 0))) (case (inside (s .height) (s .width) y x) (λ e. absurd (n e)) (λ z. z))
+      ∙ ap (λ (b : Bool). nonNeg (cond b (at (s .cells) ((y - 1) * s .width + (x - 1))) (negsuc 0))) (case (onSheet (s .height) (s .width) y x) (λ e. absurd (n e)) (λ z. z))
 
   -- a sheet that is padded because an edge is touched has a ring
   pub padded-ring : touches s ≡ true → hasRing (padded s) ≡ true
@@ -156,7 +156,7 @@ module _ (s : Sheet) where
       from y x ly lx n b =
           ring-found (padded s) (y * (s .width + 2) + x) (place-in (s .height + 2) (s .width + 2) y x ly lx)
           (ring-yes (padded s) y x ly lx (k .row + 1) (k .col + 1) (omega (arith, k .in-row)) (omega (arith, k .in-col)) b
-          (border y x ly lx (λ e. n (inside-yes (s .height) (s .width) y x e)))
+          (border y x ly lx (λ e. n (on-sheet-yes (s .height) (s .width) y x e)))
           (inner (k .row) (k .col) (k .in-row) (k .in-col) (k .solid)))
 
       go : Edge (s .height) (s .width) (k .row) (k .col) → hasRing (padded s) ≡ true

@@ -9,7 +9,7 @@ ghost use Rattle.base.specs.Outputs.{filled};
 ghost use Rattle.rules.specs.Sheet.{sheetOf};
 ghost use Rattle.rules.specs.Regions.{at, opaque};
 ghost use Rattle.rules.specs.Outline.{touches, paddedAt};
-ghost use Rattle.outline.specs.Room.{Held, fromOne, inside};
+ghost use Rattle.outline.specs.Room.{Present, fromOne, onSheet};
 ghost use Rattle.outline.specs.Rows.{stretch};
 
 // Whether the cell at p is opaque.
@@ -36,7 +36,7 @@ fn any_solid(cells: &[i32], from: usize, step: usize, count: usize) -> bool
 
 // Whether an opaque cell touches an edge.
 pub fn touches_edge(cells: &[i32], h: usize, w: usize) -> bool
-    requires { ⌜ Held (now cells) h w ⌝ }
+    requires { ⌜ Present (now cells) h w ⌝ }
     ensures { λ r. ⌜ r ≡ touches (sheetOf (now (cells .entry)) h w) ⌝ }
 {
     let n = h * w;
@@ -64,18 +64,18 @@ fn from_one(len: usize, a: usize) -> bool
 }
 
 // Whether row y and column x of the padded sheet lie on the sheet itself.
-fn inside(h: usize, w: usize, y: usize, x: usize) -> bool
-    ensures { λ r. ⌜ r ≡ inside h w y x ⌝ }
+fn on_sheet(h: usize, w: usize, y: usize, x: usize) -> bool
+    ensures { λ r. ⌜ r ≡ onSheet h w y x ⌝ }
 {
     from_one(h, y) && from_one(w, x)
 }
 
 // The cell in row y and column x of the sheet with one cell of -1 on every side.
 fn padded_cell(cells: &[i32], h: usize, w: usize, y: usize, x: usize) -> i32
-    requires { ⌜ Held (now cells) h w ⌝ }
-    ensures { λ r. ⌜ r ≡ cond (inside h w y x) (at (now (cells .entry)) ((y - 1) * w + (x - 1))) (negsuc 0) ⌝ }
+    requires { ⌜ Present (now cells) h w ⌝ }
+    ensures { λ r. ⌜ r ≡ cond (onSheet h w y x) (at (now (cells .entry)) ((y - 1) * w + (x - 1))) (negsuc 0) ⌝ }
 {
-    if inside(h, w, y, x) {
+    if on_sheet(h, w, y, x) {
         let from = (y - 1) * w + (x - 1);
         cells[from]
     } else {

@@ -4,37 +4,43 @@ pub mod ring;
 pub mod rows;
 
 use base::Filling;
+use refusals::palette_refusal;
+use refusals::sheet_refusal;
+use rules::Drawing;
 use rules::Facts;
 use rules::LineIndex;
 use rules::Outline;
 use rules::Outlining;
+use rules::Size;
 ghost use mathlib.Core.Path.{_≡_};
-ghost use mathlib.Core.Bool.{not, _&&_};
+ghost use mathlib.Core.Bool.{true};
 ghost use Prim.Native.Nat.{_*_, _≤_};
 ghost use lib.ListN.{length};
-ghost use Rattle.rules.specs.Sheet.{sheetOf};
+ghost use Rattle.rules.specs.Sheet.{lentSheet, sheetOf, needed};
 ghost use Rattle.rules.specs.Palette.{paletteOf};
-ghost use Rattle.rules.specs.Outline.{canvas};
+ghost use Rattle.rules.specs.Outline.{pads, drawn, outline};
+ghost use Rattle.rules.specs.Calls.{OutlineCall};
 ghost use Rattle.rules.specs.Entries.{outlineAnswer, outlineCells, outlinePalette};
-ghost use Rattle.outline.specs.Room.{Held, Roomy};
-ghost use Rattle.outline.specs.Drawing.{traced, Drew};
+ghost use Rattle.refusals.specs.Room.{Room};
+ghost use Rattle.outline.specs.Room.{Present};
+ghost use Rattle.outline.specs.Drawing.{Drew};
 
 // Draws the ring, where there is one, and answers the facts.
 fn draw(
     cells: &mut [i32],
-    h: usize,
-    w: usize,
+    size: Size,
     palette: &mut [f64],
     k: usize,
-    outline: Outline,
-    fixed: bool,
+    how: Drawing,
     clipped: bool,
     work: &mut [u32],
 ) -> Facts
-    requires { ⌜ Held (now cells) h w ⌝ }
-    requires { ⌜ (length (now palette) ≡ 768) × (k ≤ 256) × (h * w ≤ length (now work)) ⌝ }
-    ensures { λ r. ⌜ Drew (traced clipped fixed outline (sheetOf (now (cells .entry)) h w) (paletteOf (now (palette .entry)) k)) (now (cells .entry)) r (now (cells .exit)) (now (palette .exit)) ⌝ }
+    requires { ⌜ Present (now cells) (size .h) (size .w) ⌝ }
+    requires { ⌜ (length (now palette) ≡ 768) × (k ≤ 256) × (size .h * size .w ≤ length (now work)) ⌝ }
+    ensures { λ r. ⌜ Drew (drawn (λ i. true) how (paletteOf (now (palette .entry)) k) clipped (sheetOf (now (cells .entry)) (size .h) (size .w))) (now (cells .entry)) r (now (cells .exit)) (now (palette .exit)) ⌝ }
 {
+    let h = size.h;
+    let w = size.w;
     if !ring::has_ring(cells, h, w) {
         return Facts {
             height: h,
@@ -44,8 +50,9 @@ fn draw(
             outline_clipped: clipped,
         };
     }
-    let c = line::outline_color_lab(palette, k, outline);
-    let chosen = line::choose(palette, k, c, fixed);
+    let outline = how.outline;
+    let c = outline_entry::outline_color_lab(palette, k, outline);
+    let chosen = outline_entry::choose(palette, k, c, how.fixed_palette);
     let index = chosen.index;
     ring::mark_ring(cells, h, w, work);
     ring::ink(cells, h * w, work, index);
@@ -58,28 +65,29 @@ fn draw(
     }
 }
 
-// Outlines a sheet that no row refuses, padded first if padding applies. An edge that is touched is clipped, if not padded.
-fn trace(
+// Outlines a sheet whose arguments were checked, padded first if padding applies.
+pub fn outline_sheet(
     cells: &mut [i32],
-    h: usize,
-    w: usize,
+    size: Size,
     palette: &mut [f64],
     k: usize,
-    outline: Outline,
-    fixed: bool,
-    padding: bool,
-    touched: bool,
+    how: Drawing,
     work: &mut [u32],
 ) -> Facts
-    requires { ⌜ Roomy (length (now cells)) (length (now work)) h w padding ⌝ }
+    requires { ⌜ Room (size .h) (size .w) (needed (size .h) (size .w) (pads how (sheetOf (now cells) (size .h) (size .w)))) (length (now cells)) (length (now work)) ⌝ }
     requires { ⌜ (length (now palette) ≡ 768) × (k ≤ 256) ⌝ }
-    ensures { λ r. ⌜ Drew (traced (not padding && touched) fixed outline (canvas padding (sheetOf (now (cells .entry)) h w)) (paletteOf (now (palette .entry)) k)) (now (cells .entry)) r (now (cells .exit)) (now (palette .exit)) ⌝ }
+    ensures { λ r. ⌜ Drew (outline (λ i. true) how (paletteOf (now (palette .entry)) k) (sheetOf (now (cells .entry)) (size .h) (size .w))) (now (cells .entry)) r (now (cells .exit)) (now (palette .exit)) ⌝ }
 {
-    if padding {
-        canvas::pad(cells, h, w);
-        return draw(cells, h + 2, w + 2, palette, k, outline, fixed, false, work);
+    let h = size.h;
+    let w = size.w;
+    let touched = canvas::touches_edge(cells, h, w);
+    let clipped = touched & !how.allow_pad;
+    if !rows::pads(how, touched) {
+        return draw(cells, size, palette, k, how, clipped, work);
     }
-    draw(cells, h, w, palette, k, outline, fixed, touched, work)
+    canvas::pad(cells, h, w);
+    let padded = Size { h: h + 2, w: w + 2 };
+    draw(cells, padded, palette, k, how, clipped, work)
 }
 
 // Outlines a sheet in its lent list, and gives the outline its palette entry.
@@ -94,30 +102,26 @@ pub fn add_outline(
     fixed_palette: bool,
     work: &mut [u32],
 ) -> Outlining
-    ensures { λ r. ⌜ r ≡ outlineAnswer (now (cells .entry)) h w (paletteOf (now (palette .entry)) k) outline «allow_pad» «fixed_palette» (length (now (work .entry))) ⌝ }
-    ensures { λ r. ⌜ now (cells .exit) ≡ outlineCells (now (cells .entry)) h w (paletteOf (now (palette .entry)) k) outline «allow_pad» «fixed_palette» (length (now (work .entry))) ⌝ }
-    ensures { λ r. ⌜ now (palette .exit) ≡ outlinePalette (now (cells .entry)) h w (paletteOf (now (palette .entry)) k) outline «allow_pad» «fixed_palette» (length (now (work .entry))) ⌝ }
+    ensures { λ r. ⌜ (let call : OutlineCall = record {
+      lent = lentSheet (now (cells .entry)) h w (length (now (work .entry)));
+      palette = paletteOf (now (palette .entry)) k;
+      how = record { outline = outline; «allow_pad» = «allow_pad»; «fixed_palette» = «fixed_palette» };
+    } in (r ≡ outlineAnswer call) × (now (cells .exit) ≡ outlineCells call) × (now (palette .exit) ≡ outlinePalette call)) ⌝ }
 {
-    if let Filling::Refused(n) = rows::sheet_refusal(cells, h, w, outline, allow_pad, work.len()) {
-        return Outlining::Refused(n);
-    }
-    let touched = canvas::touches_edge(cells, h, w);
-    let padding = rows::pads(allow_pad, outline, touched);
-    let refused = rows::line_refusal(cells, h, w, palette, k, outline, padding, fixed_palette);
-    if let Filling::Refused(n) = refused {
-        return Outlining::Refused(n);
-    }
-    let facts = trace(
-        cells,
-        h,
-        w,
-        palette,
-        k,
+    let how = Drawing {
         outline,
+        allow_pad,
         fixed_palette,
-        padding,
-        touched,
-        work,
-    );
-    Outlining::Drawn(facts)
+    };
+    let padding = rows::padding(cells, h, w, how);
+    if let Filling::Refused(n) = sheet_refusal(h, w, padding, cells.len(), work.len()) {
+        return Outlining::Refused(n);
+    }
+    if let Filling::Refused(n) = palette_refusal(palette, k, rows::bad_outline(outline)) {
+        return Outlining::Refused(n);
+    }
+    if rows::no_entry(cells, h, w, k, how, padding) {
+        return Outlining::Refused(8);
+    }
+    Outlining::Drawn(outline_sheet(cells, Size { h, w }, palette, k, how, work))
 }

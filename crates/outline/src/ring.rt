@@ -11,7 +11,7 @@ ghost use Rattle.base.specs.Outputs.{filled};
 ghost use Rattle.rules.specs.Sheet.{sheetOf};
 ghost use Rattle.rules.specs.Regions.{at};
 ghost use Rattle.rules.specs.Outline.{ring, hasRing};
-ghost use Rattle.outline.specs.Room.{Held};
+ghost use Rattle.outline.specs.Room.{Present};
 ghost use Rattle.outline.specs.Rows.{stretch, back, ahead};
 
 // The place a step before p, the i-th of its line; p itself for the first.
@@ -45,7 +45,7 @@ fn either(a: bool, b: bool) -> bool
 
 // Whether the cell at p, in row y and column x, is of the ring. Off the sheet p itself is read, which adds nothing, so that no read hangs on a test.
 fn ring_at(cells: &[i32], h: usize, w: usize, p: usize, y: usize, x: usize) -> bool
-    requires { ⌜ Held (now cells) h w ⌝ }
+    requires { ⌜ Present (now cells) h w ⌝ }
     requires { ⌜ (y < h) × (x < w) × (p ≡ y * w + x) ⌝ }
     ensures { λ r. ⌜ r ≡ ring (sheetOf (now (cells .entry)) h w) p ⌝ }
 {
@@ -62,7 +62,7 @@ fn ring_at(cells: &[i32], h: usize, w: usize, p: usize, y: usize, x: usize) -> b
 
 // Whether a cell of row y is of the ring. Its ends are apart: between them every cell has one to its left and one to its right.
 fn row_has_ring(cells: &[i32], h: usize, w: usize, y: usize) -> bool
-    requires { ⌜ Held (now cells) h w ⌝ }
+    requires { ⌜ Present (now cells) h w ⌝ }
     requires { ⌜ (y < h) × (0 < w) ⌝ }
     ensures { λ r. ⌜ r ≡ any w (λ x. ring (sheetOf (now (cells .entry)) h w) (y * w + x)) ⌝ }
 {
@@ -77,7 +77,7 @@ fn row_has_ring(cells: &[i32], h: usize, w: usize, y: usize) -> bool
 
 // Whether there is a ring.
 pub fn has_ring(cells: &[i32], h: usize, w: usize) -> bool
-    requires { ⌜ Held (now cells) h w ⌝ }
+    requires { ⌜ Present (now cells) h w ⌝ }
     ensures { λ r. ⌜ r ≡ hasRing (sheetOf (now (cells .entry)) h w) ⌝ }
 {
     if w == 0 {
@@ -100,7 +100,7 @@ fn mark(b: bool) -> u32
 
 // Marks the cell in row y and column x.
 fn mark_cell(cells: &[i32], h: usize, w: usize, y: usize, x: usize, marks: &mut [u32])
-    requires { ⌜ Held (now cells) h w ⌝ }
+    requires { ⌜ Present (now cells) h w ⌝ }
     requires { ⌜ (y < h) × (x < w) × (h * w ≤ length (now marks)) ⌝ }
     ensures { λ r. ⌜ now (marks .exit) ≡ set (now (marks .entry)) (y * w + x) (cond (ring (sheetOf (now (cells .entry)) h w) (y * w + x)) 1 0) ⌝ }
 {
@@ -111,7 +111,7 @@ fn mark_cell(cells: &[i32], h: usize, w: usize, y: usize, x: usize, marks: &mut 
 
 // Marks row y. Its ends are apart: between them every cell has one to its left and one to its right.
 fn mark_row(cells: &[i32], h: usize, w: usize, y: usize, marks: &mut [u32])
-    requires { ⌜ Held (now cells) h w ⌝ }
+    requires { ⌜ Present (now cells) h w ⌝ }
     requires { ⌜ (y < h) × (h * w ≤ length (now marks)) ⌝ }
     ensures { λ r. ⌜ now (marks .exit) ≡ stretch (y * w) w (λ p. cond (ring (sheetOf (now (cells .entry)) h w) p) 1 0) (now (marks .entry)) ⌝ }
 {
@@ -128,7 +128,7 @@ fn mark_row(cells: &[i32], h: usize, w: usize, y: usize, marks: &mut [u32])
 
 // Marks the cells of the ring by 1, all others by 0.
 pub fn mark_ring(cells: &[i32], h: usize, w: usize, marks: &mut [u32])
-    requires { ⌜ Held (now cells) h w ⌝ }
+    requires { ⌜ Present (now cells) h w ⌝ }
     requires { ⌜ h * w ≤ length (now marks) ⌝ }
     ensures { λ r. ⌜ now (marks .exit) ≡ filled (h * w) (λ p. cond (ring (sheetOf (now (cells .entry)) h w) p) 1 0) (now (marks .entry)) ⌝ }
 {

@@ -1,80 +1,127 @@
 -- `outline::add_outline` meets its contract: what every refusal leaves, and what is drawn. Assumes nothing.
 use mathlib.Core.Path.{_≡_, sym, ap, _∙_}
-use mathlib.Core.Bool.{Bool, _&&_}
+use mathlib.Core.Bool.{Bool}
 use mathlib.Core.Option.{none}
-use native.Mathlib.Omega.{arith}
 use lib.ListN.{length}
-use Rattle.base.specs.declared.Filling.the-variants.{Done}
-use Rattle.base.specs.Refusals.{refusal, filling}
-use Rattle.base.proofs.Counting.{right}
-use Rattle.rules.specs.Sheet.{sheetOf}
-use Rattle.rules.specs.Palette.{paletteOf}
-use Rattle.rules.specs.Outline.{asked, touches, pads, canvas}
-use Rattle.rules.specs.Entries.{outlineRefusal}
-use Rattle.outline.specs.Room.{Held, Roomy}
-use Rattle.outline.proofs.Refusing.{sheet-passed, roomy-plain, Drawable, line-passed, line-rows, line-part, sheet-part, refused-sheet, refused-line, not-refused}
-use Rattle.outline.proofs.Drawn.{outline-is, met-refused, met-drawn}
 use borrow.Author.Needs.{needs}
+use Rattle.base.specs.Refusals.{refusal, filling}
+use Rattle.base.proofs.Refusing.{row-hit, row-last, rows-hit, rows-pass, filling-some, filling-none}
+use Rattle.rules.specs.Sheet.{lentSheet, sheetIn, needed}
+use Rattle.rules.specs.Palette.{paletteOf}
+use Rattle.rules.specs.Outline.{pads, canvas}
+use Rattle.rules.specs.Calls.{OutlineCall}
+use Rattle.rules.specs.Rows.{paletteRows, noEntry}
+use Rattle.rules.specs.Entries.{lentRows, badOutline, outlineRefusal}
+use Rattle.refusals.specs.Room.{Room, Usable}
+use Rattle.refusals.proofs.Rows.{sheet-room, palette-room}
+use Rattle.outline.proofs.Refusing.{padded-rows, padded-is, seated, pad-touches}
+use Rattle.outline.proofs.Drawn.{met-refused, met-drawn}
 use Rattle.outline.proofs.add_outline.Statement.{statement}
 use Rattle.outline.proofs.add_outline.Tie as tie
 
--- ---- rows 1, 2 and 3 do not apply
+-- ---- the call
 
-abbrev start : tie.After-enum-told → tie.Start
-start c = c .before .before .before .before .before .before
+abbrev start : tie.After-padding → tie.Start
+start c = c .before .before .before .before
 
-begun : (c : tie.After-enum-told)
-    → filling (refusal (sheet-part (start c .args .cells .now) (start c .args .h) (start c .args .w) (paletteOf (start c .args .palette .now) (start c .args .k)) (start c .args .outline)
-    (start c .args .allow-pad) (start c .args .fixed-palette) (length (start c .args .work .now)))) ≡ Done
-begun c = sym (c .before .before .sheet-refusal .ensures) ∙ c .enum-told .given .1
+abbrev call : tie.After-padding → OutlineCall
+call c =
+    let s = start c .args in
+    record {
+      lent = lentSheet (s .cells .now) (s .h) (s .w) (length (s .work .now));
+      palette = paletteOf (s .palette .now) (s .k);
+      how = record { outline = s .outline; «allow_pad» = s .allow-pad; «fixed_palette» = s .fixed-palette };
+    }
 
-roomy : (c : tie.After-enum-told)
-    → Roomy (length (start c .args .cells .now)) (length (start c .args .work .now)) (start c .args .h) (start c .args .w)
-    (pads (start c .args .allow-pad) (start c .args .outline) (sheetOf (start c .args .cells .now) (start c .args .h) (start c .args .w)))
-roomy c = sheet-passed _ _ _ _ _ (begun c)
+abbrev pads-it : tie.After-padding → Bool
+pads-it c = pads (call c .how) (sheetIn (call c .lent))
 
-held : (c : tie.After-enum-told) → Held (start c .args .cells .now) (start c .args .h) (start c .args .w)
-held c = let k = roomy c in record { high = omega (arith, k .high); wide = omega (arith, k .wide); room = roomy-plain k .0 }
+-- ---- rows 1 to 3
 
--- ---- whether padding applies
+sheet-judged : (c : tie.After-sheet-refusal) → c .sheet-refusal .result ≡ filling (refusal (lentRows (call (c .before) .lent) (pads-it (c .before))))
+sheet-judged c =
+    let p = c .before in
+    let s = start p .args in
+    c .sheet-refusal .ensures ∙ ap filling (padded-rows (call p .how) (s .cells .now) (s .h) (s .w) (length (s .work .now)) (p .padding .ensures))
 
-abbrev entered : tie.After-pads → tie.After-enum-told
-entered c = c .before .before .before
+abbrev padded : tie.After-enum-told → tie.After-padding
+padded c = c .before .before .before
 
-padding : (c : tie.After-pads) → c .pads .result ≡ (start (entered c) .args .allow-pad && asked (start (entered c) .args .outline)
-    && touches (sheetOf (start (entered c) .args .cells .now) (start (entered c) .args .h) (start (entered c) .args .w)))
-padding c = c .pads .ensures ∙ ap (λ (t : Bool). start (entered c) .args .allow-pad && asked (start (entered c) .args .outline) && t) (c .before .touches-edge .ensures)
+first : (c : tie.After-enum-told) → refusal (lentRows (call (padded c) .lent) (pads-it (padded c))) ≡ none
+first c = filling-none (sheet-judged (c .before .before)) (c .enum-told .given .1)
 
--- ---- rows 4, 5, 6 and 8, on the sheet that is drawn on
+room : (c : tie.After-enum-told) → let s = start (padded c) .args in Room (s .h) (s .w) (needed (s .h) (s .w) (pads-it (padded c))) (length (s .cells .now)) (length (s .work .now))
+room c = sheet-room _ (first c) .0
 
-abbrev asked-of : tie.After-line-refusal → tie.Start
-asked-of c = start (entered (c .before .before .before))
+padding-is : (c : tie.After-enum-told) → padded c .padding .result ≡ pads-it (padded c)
+padding-is c =
+    let p = padded c in
+    let s = start p .args in
+    padded-is (call p .how) (s .cells .now) (s .h) (s .w) (length (s .work .now)) (p .padding .ensures) (first c)
 
-line-is : (c : tie.After-line-refusal)
-    → filling (refusal (line-part (asked-of c .args .cells .now) (asked-of c .args .h) (asked-of c .args .w) (paletteOf (asked-of c .args .palette .now) (asked-of c .args .k)) (asked-of c .args .outline)
-    (asked-of c .args .allow-pad) (asked-of c .args .fixed-palette) (length (asked-of c .args .work .now)))) ≡ c .line-refusal .result
-unfolding pads
-line-is c =
-    let s = asked-of c .args in
-    sym (c .line-refusal .ensures
-    ∙ ap (λ (b : Bool). filling (refusal (line-rows (paletteOf (s .palette .now) (s .k)) (s .outline) (s .fixed-palette) (canvas b (sheetOf (s .cells .now) (s .h) (s .w)))))) (padding (c .before .before .before)))
+-- ---- rows 4 to 6
 
-abbrev past : tie.After-enum-told2 → tie.After-pads
-past c = c .before .before .before .before .before
+abbrev entered : tie.After-enum-told2 → tie.After-enum-told
+entered c = c .before .before .before .before .before
 
-abbrev given : tie.After-enum-told2 → tie.Start
-given c = start (entered (past c))
+second : (c : tie.After-palette-refusal) → let k = call (padded (c .before .before .before)) in c .palette-refusal .result ≡ filling (refusal (paletteRows (k .palette) (badOutline (k .how .outline))))
+second c =
+    let k = call (padded (c .before .before .before)) in
+    c .palette-refusal .ensures ∙ ap (λ (b : Bool). filling (refusal (paletteRows (k .palette) b))) (c .before .bad-outline .ensures)
 
-drawable : (c : tie.After-enum-told2) → Drawable (paletteOf (given c .args .palette .now) (given c .args .k)) (given c .args .outline)
-drawable c = line-passed _ _ _ _ (line-is (c .before .before) ∙ c .enum-told2 .given .1)
+colours : (c : tie.After-enum-told2) → let k = call (padded (entered c)) in refusal (paletteRows (k .palette) (badOutline (k .how .outline))) ≡ none
+colours c = filling-none (second (c .before .before)) (c .enum-told2 .given .1)
 
-ready : (c : tie.After-enum-told2)
-    → outlineRefusal (given c .args .cells .now) (given c .args .h) (given c .args .w) (paletteOf (given c .args .palette .now) (given c .args .k)) (given c .args .outline)
-    (given c .args .allow-pad) (given c .args .fixed-palette) (length (given c .args .work .now)) ≡ none
-ready c =
-    let s = given c .args in
-    not-refused (s .cells .now) (s .h) (s .w) (paletteOf (s .palette .now) (s .k)) (s .outline) (s .allow-pad) (s .fixed-palette) (length (s .work .now))
-    (begun (entered (past c))) (line-is (c .before .before) ∙ c .enum-told2 .given .1)
+usable : (c : tie.After-enum-told2) → let k = call (padded (entered c)) in Usable (k .palette) (badOutline (k .how .outline))
+usable c = palette-room _ (colours c) .0
+
+-- ---- row 8
+
+abbrev past : tie.After-no-entry → tie.After-enum-told2
+past c = c .before .before
+
+eighth : (c : tie.After-no-entry) → let k = call (padded (entered (past c))) in c .no-entry .result ≡ noEntry (k .how) (k .palette) (canvas (pads (k .how) (sheetIn (k .lent))) (sheetIn (k .lent))) .applies
+unfolding noEntry
+eighth c =
+    let e = entered (past c) in
+    let k = call (padded e) in
+    c .no-entry .ensures ∙ ap (λ (b : Bool). noEntry (k .how) (k .palette) (canvas b (sheetIn (k .lent))) .applies) (padding-is e)
+
+-- the refusals, and that there is none
+returns : tie.Need-returns
+unfolding outlineRefusal
+returns c =
+    let r = c .before .before .before in
+    met-refused (call (r .before)) _ (rows-hit _ _ (filling-some (sheet-judged r) (c .before .n .given .1)))
+
+returns-2 : tie.Need-returns-2
+unfolding outlineRefusal
+returns-2 c =
+    let r = c .before .before .before in
+    let e = r .before .before .before in
+    met-refused (call (padded e)) _ (rows-pass _ _ (first e) ∙ rows-hit _ _ (filling-some (second r) (c .before .n2 .given .1)))
+
+returns-3 : tie.Need-returns-3
+unfolding outlineRefusal noEntry
+returns-3 c =
+    let t = past (c .before) in
+    let e = entered t in
+    met-refused (call (padded e)) _ (rows-pass _ _ (first e) ∙ rows-pass _ _ (colours t) ∙ row-hit _ _ (sym (eighth (c .before)) ∙ c .if1 .taken))
+
+accepted : (c : tie.Else1) → outlineRefusal (call (padded (entered (past (c .before))))) ≡ none
+unfolding outlineRefusal
+accepted c =
+    let t = past (c .before) in
+    rows-pass _ _ (first (entered t)) ∙ rows-pass _ _ (colours t) ∙ row-last _ (sym (eighth (c .before)) ∙ c .if1 .left)
+
+returns-4 : tie.Need-returns-4
+returns-4 c =
+    let d = c .before .before .before .before .before in
+    let n = d .before .before .before .before in
+    met-drawn (call (padded (entered (past (n .before))))) (accepted n) (d .outline-sheet .ensures)
+
+padding-requires : tie.Need-padding-requires
+padding-requires c κs = search needs
 
 sheet-refusal-requires : tie.Need-sheet-refusal-requires
 sheet-refusal-requires c κs = search needs
@@ -85,29 +132,17 @@ enum-known-n c = search needs
 same-length : tie.Need-same-length
 same-length c = search needs
 
-returns : tie.Need-returns
-returns c =
-    let r = c .before .before .before in
-    let s = r .before .before .before .before .args in
-    met-refused (s .cells .now) (s .h) (s .w) (paletteOf (s .palette .now) (s .k)) (s .outline) (s .allow-pad) (s .fixed-palette) (length (s .work .now)) _
-    (refused-sheet (s .cells .now) (s .h) (s .w) (paletteOf (s .palette .now) (s .k)) (s .outline) (s .allow-pad) (s .fixed-palette) (length (s .work .now)) _ (sym (r .sheet-refusal .ensures) ∙ c .before .n .given .1))
-
 enum-told : tie.Need-enum-told
 enum-told c = search needs
 
-touches-edge-requires : tie.Need-touches-edge-requires
-touches-edge-requires c κs = held (c .before)
+bad-outline-requires : tie.Need-bad-outline-requires
+bad-outline-requires c κs = search needs
 
-pads-requires : tie.Need-pads-requires
-pads-requires c κs = search needs
+palette-refusal-requires : tie.Need-palette-refusal-requires
+palette-refusal-requires c κs = search needs
 
-line-refusal-requires : tie.Need-line-refusal-requires
-line-refusal-requires c κs =
-    let p = c .before .before in
-    (held (entered p), λ e. right (start (entered p) .args .allow-pad && asked (start (entered p) .args .outline)) _ (sym (padding p) ∙ e))
-
-enum-known-refused : tie.Need-enum-known-refused
-enum-known-refused c = search needs
+enum-known-n-2 : tie.Need-enum-known-n-2
+enum-known-n-2 c = search needs
 
 same-length-2 : tie.Need-same-length-2
 same-length-2 c = search needs
@@ -115,23 +150,14 @@ same-length-2 c = search needs
 same-length-3 : tie.Need-same-length-3
 same-length-3 c = search needs
 
-returns-2 : tie.Need-returns-2
-returns-2 c =
-    let r = c .before .before .before in
-    let e = entered (r .before .before .before) in
-    let s = start e .args in
-    met-refused (s .cells .now) (s .h) (s .w) (paletteOf (s .palette .now) (s .k)) (s .outline) (s .allow-pad) (s .fixed-palette) (length (s .work .now)) _
-    (refused-line (s .cells .now) (s .h) (s .w) (paletteOf (s .palette .now) (s .k)) (s .outline) (s .allow-pad) (s .fixed-palette) (length (s .work .now)) (begun e) _ (line-is r ∙ c .before .refused .given .1))
-
 enum-told-2 : tie.Need-enum-told-2
 enum-told-2 c = search needs
 
-trace-requires : tie.Need-trace-requires
-unfolding pads
-trace-requires c κs =
-    let e = c .before .before .before in
-    let d = drawable e in
-    (rw (padding (past e)) (roomy (entered (past e))), (d .whole, d .few))
+no-entry-requires : tie.Need-no-entry-requires
+no-entry-requires c κs =
+    let e = entered (c .before) in
+    let k = call (padded e) in
+    (seated _ (k .lent .cells) (room e), λ y. pad-touches (k .how) (sheetIn (k .lent)) (sym (padding-is e) ∙ y))
 
 same-length-4 : tie.Need-same-length-4
 same-length-4 c = search needs
@@ -139,39 +165,44 @@ same-length-4 c = search needs
 same-length-5 : tie.Need-same-length-5
 same-length-5 c = search needs
 
+outline-sheet-requires : tie.Need-outline-sheet-requires
+outline-sheet-requires c κs =
+    let t = past (c .before .before .before .before) in
+    let u = usable t in
+    (room (entered t), (u .whole, u .few))
+
 same-length-6 : tie.Need-same-length-6
 same-length-6 c = search needs
 
-returns-3 : tie.Need-returns-3
-unfolding pads
-returns-3 c =
-    let t = c .before .before .before .before .before in
-    let e = t .before .before .before .before in
-    let p = past e in
-    let s = given e .args in
-    met-drawn (s .cells .now) (s .h) (s .w) (paletteOf (s .palette .now) (s .k)) (s .outline) (s .allow-pad) (s .fixed-palette) (length (s .work .now)) (ready e) _
-    (outline-is (s .allow-pad) (s .fixed-palette) (s .outline) (sheetOf (s .cells .now) (s .h) (s .w)) (paletteOf (s .palette .now) (s .k)) (drawable e .wanted) _ _ (padding p) (p .before .touches-edge .ensures))
-    (t .trace .ensures)
+same-length-7 : tie.Need-same-length-7
+same-length-7 c = search needs
+
+same-length-8 : tie.Need-same-length-8
+same-length-8 c = search needs
 
 pub add-outline-spec : {M : Type 1} → statement M
 add-outline-spec =
     tie.close
     (tie.spec
+    padding-requires
     sheet-refusal-requires
     enum-known-n
     same-length
     returns
     enum-told
-    touches-edge-requires
-    pads-requires
-    line-refusal-requires
-    enum-known-refused
+    bad-outline-requires
+    palette-refusal-requires
+    enum-known-n-2
     same-length-2
     same-length-3
     returns-2
     enum-told-2
-    trace-requires
+    no-entry-requires
     same-length-4
     same-length-5
+    returns-3
+    outline-sheet-requires
     same-length-6
-    returns-3)
+    same-length-7
+    same-length-8
+    returns-4)

@@ -7,7 +7,7 @@ use lib.ListN.{length}
 use Rattle.base.specs.Places.{any}
 use Rattle.base.proofs.Counting.{yes-any}
 use Rattle.rules.specs.Regions.{opaque}
-use Rattle.checks.proofs.Scans.{none-yet, none-more}
+use Rattle.refusals.proofs.Scans.{none-yet, none-more}
 use Rattle.outline.proofs.canvas.any_solid.Statement.{statement}
 use Rattle.outline.proofs.canvas.any_solid.Tie as tie
 
@@ -17,20 +17,20 @@ Inv-loop cells from step count i₀ i = (i ≤ count) × (any i (λ j. opaque ce
 abbrev μ-loop : tie.MeasureT-loop
 μ-loop cells from step count i₀ i = count - i
 
-inside : (c : tie.In-loop Inv-loop μ-loop) → c .before .before .args .from + c .before .loop .i * c .before .before .args .step < length (c .before .before .args .cells .now)
-inside c = c .before .before .pre (c .before .loop .i) (c .loop-test .taken)
+onSheet : (c : tie.In-loop Inv-loop μ-loop) → c .before .before .args .from + c .before .loop .i * c .before .before .args .step < length (c .before .before .args .cells .now)
+onSheet c = c .before .before .pre (c .before .loop .i) (c .loop-test .taken)
 
 loop-holds : tie.Need-loop-holds Inv-loop μ-loop
 loop-holds c = (omega arith, none-yet _)
 
 mul-p : tie.Need-mul-p Inv-loop μ-loop
-mul-p c = record { fits = omega (arith, inside c) }
+mul-p c = record { fits = omega (arith, onSheet c) }
 
 add-p : tie.Need-add-p Inv-loop μ-loop
-add-p c = record { fits = omega (arith, inside c) }
+add-p c = record { fits = omega (arith, onSheet c) }
 
 solid-requires : tie.Need-solid-requires Inv-loop μ-loop
-solid-requires c κs = inside c
+solid-requires c κs = onSheet c
 
 returns : tie.Need-returns Inv-loop μ-loop
 returns c = sym (yes-any _ _ (c .before .before .before .loop .i) (omega arith) (sym (c .before .solid .ensures) ∙ c .if1 .taken))

@@ -8,8 +8,7 @@ use mir.Syntax.{w32}
 use mir.Facts.{toZ-ofZ}
 use Rattle.rules.proofs.Reading.{read-at}
 use Rattle.grid.proofs.Places.{place-in, area as area-fits}
-use Rattle.outline.specs.Room.{inside}
-use Rattle.outline.proofs.Padding.{inside-yes}
+use Rattle.outline.proofs.Padding.{on-sheet-yes}
 use Rattle.outline.proofs.canvas.padded_cell.Statement.{statement}
 use Rattle.outline.proofs.canvas.padded_cell.Tie as tie
 
@@ -28,10 +27,10 @@ on-sheet h w y x n a b r k =
 on : (c : tie.Then1) → On (c .before .before .args .h) (c .before .before .args .w) (c .before .before .args .y) (c .before .before .args .x) (length (c .before .before .args .cells .now))
 on c =
     let s = c .before .before in
-    on-sheet _ _ _ _ _ (s .pre .high) (s .pre .wide) (s .pre .room) (inside-yes _ _ _ _ (sym (c .before .inside .ensures) ∙ c .if1 .taken))
+    on-sheet _ _ _ _ _ (s .pre .high) (s .pre .wide) (s .pre .room) (on-sheet-yes _ _ _ _ (sym (c .before .on-sheet .ensures) ∙ c .if1 .taken))
 
-inside-requires : tie.Need-inside-requires
-inside-requires c κs = tt
+on-sheet-requires : tie.Need-on-sheet-requires
+on-sheet-requires c κs = tt
 
 sub-from : tie.Need-sub-from
 sub-from c = on c .low
@@ -54,18 +53,18 @@ shared-slice-copy-out-result c = omega (arith, on c .held)
 returns : tie.Need-returns
 returns c =
     let s = c .before .before .before in
-    rw (sym (c .before .before .inside .ensures) ∙ c .before .if1 .taken)
+    rw (sym (c .before .before .on-sheet .ensures) ∙ c .before .if1 .taken)
     (toZ-ofZ {w = w32} {z = getD (s .args .cells .now) ((s .args .y - 1) * s .args .w + (s .args .x - 1)) (pos 0)} (record { sfits = c .result .given })
     ∙ read-at (s .args .cells .now) ((s .args .y - 1) * s .args .w + (s .args .x - 1)) (on (c .before) .held))
 
 returns-2 : tie.Need-returns-2
-returns-2 c = rw (sym (c .before .inside .ensures) ∙ c .if1 .left)
+returns-2 c = rw (sym (c .before .on-sheet .ensures) ∙ c .if1 .left)
 
 pub padded-cell-spec : {M : Type 1} → statement M
 padded-cell-spec =
     tie.close
     (tie.spec
-    inside-requires
+    on-sheet-requires
     sub-from
     mul-from
     sub-from-2

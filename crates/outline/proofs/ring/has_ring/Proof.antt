@@ -7,7 +7,7 @@ use native.Mathlib.Omega.{arith}
 use Rattle.base.specs.Places.{any}
 use Rattle.rules.specs.Sheet.{sheetOf, area}
 use Rattle.rules.specs.Outline.{ring, hasRing}
-use Rattle.checks.proofs.Scans.{none-yet}
+use Rattle.refusals.proofs.Scans.{none-yet}
 use Rattle.outline.proofs.Rings.{none-row, ring-in-row, no-columns}
 use Rattle.outline.proofs.ring.has_ring.Statement.{statement}
 use Rattle.outline.proofs.ring.has_ring.Tie as tie

@@ -14,15 +14,15 @@ start c = c .before .before .before
 abbrev on : tie.Else2 → Sheet
 on c = canvas (start c .args .padding) (sheetOf (start c .args .cells .now) (start c .args .h) (start c .args .w))
 
-needed : (c : tie.Else2) → no-entry (start c .args .outline) (start c .args .fixed) (start c .args .k) (on c) ≡ hasRing (on c)
+needed : (c : tie.Else2) → no-entry (start c .args .how) (start c .args .k) (on c) ≡ hasRing (on c)
 needed c =
-    one-needed (start c .args .outline) (start c .args .fixed) (start c .args .k) (on c) (c .before .before .if1 .left)
+    one-needed (start c .args .how) (start c .args .k) (on c) (c .before .before .if1 .left)
     (sym (c .before .needs-entry .ensures) ∙ not-false (c .before .needs-entry .result) (c .if2 .left))
 
 returns : tie.Need-returns
 returns c =
     let s = c .before .args in
-    sym (some-entry (s .outline) (s .fixed) (s .k) (canvas (s .padding) (sheetOf (s .cells .now) (s .h) (s .w))) (c .if1 .taken))
+    sym (some-entry (s .how) (s .k) (canvas (s .padding) (sheetOf (s .cells .now) (s .h) (s .w))) (c .if1 .taken))
 
 needs-entry-requires : tie.Need-needs-entry-requires
 needs-entry-requires c κs = search needs
@@ -31,7 +31,7 @@ returns-2 : tie.Need-returns-2
 returns-2 c =
     let n = c .before in
     let s = n .before .before .args in
-    sym (none-needed (s .outline) (s .fixed) (s .k) (canvas (s .padding) (sheetOf (s .cells .now) (s .h) (s .w))) (n .before .if1 .left)
+    sym (none-needed (s .how) (s .k) (canvas (s .padding) (sheetOf (s .cells .now) (s .h) (s .w))) (n .before .if1 .left)
     (sym (n .needs-entry .ensures) ∙ not-true (n .needs-entry .result) (c .if2 .taken)))
 
 returns-3 : tie.Need-returns-3
