@@ -1,7 +1,7 @@
 -- The steps of an accepted `run`, one after the other: what each may rely on, and that together they are the rule. Assumes nothing.
 use Prim.Native.Nat.{ℕ, _*_, _≤_}
 use mathlib.Core.Path.{_≡_, refl, sym, ap, _∙_, subst}
-use mathlib.Core.Bool.{Bool, true, false, _&&_, _||_, cond}
+use mathlib.Core.Bool.{Bool, true, false, _||_, cond}
 use mathlib.Core.List.{List}
 use mathlib.Core.Option.{none, some}
 use native.Mathlib.Omega.{arith}
@@ -9,43 +9,31 @@ use lib.IntN.{ℤ, pos}
 use lib.Signed.{leZ}
 use lib.ListN.{length}
 use lib.Ieee.{Float}
-use borrow.Author.Tests.{le-ltb, eq-eqb}
 use Rattle.base.specs.Places.{any}
 use Rattle.base.proofs.Counting.{any-same}
-use Rattle.base.proofs.Fills.{filled-length}
-use Rattle.rules.specs.declared.PostConfig.{PostConfig}
+use Rattle.base.proofs.Refusing.{some-unless, none-unless}
+use Rattle.rules.specs.declared.Limits.{Limits}
 use Rattle.rules.specs.declared.Facts.{Facts}
 use Rattle.rules.specs.declared.Processing.{Processing}
 use Rattle.rules.specs.declared.Processing.the-variants.{Processed, Refused}
-use Rattle.rules.specs.Sheet.{Sheet, area, sheetOf, over, needed}
-use Rattle.rules.specs.Palette.{Palette, paletteOf, outOfRange, saturate}
+use Rattle.rules.specs.Sheet.{Sheet, area, sheetOf, sheetIn, over, needed}
+use Rattle.rules.specs.Palette.{Palette, paletteOf}
 use Rattle.rules.specs.Corners.{trim}
-use Rattle.rules.specs.Outline.{asked, pads, padded, canvas, ring, hasRing, Outlined}
-use Rattle.rules.specs.Run.{Tidied, tidyIf, limitsOf, toned, outlineIf, Ran, process}
-use Rattle.rules.specs.Rows.{tooLarge, badPalette, badIndex, noEntry}
-use Rattle.rules.specs.Entries.{factsOf, outlineRefusal, runAnswer, runCells, runPalette}
-use Rattle.rules.proofs.Opacity.{Alike, trans, tidied-alike, cut-alike, pads-same, ring-same, canvas-alike, Shown, line-shown}
+use Rattle.rules.specs.Outline.{asked, pads, canvas, ring, hasRing, Outlined}
+use Rattle.rules.specs.Calls.{RunCall}
+use Rattle.rules.specs.Run.{CleanedSheet, cleanSheetIf, limitsOf, toned, tonedPalette, drawingOf, outlineIf, firstCleaning, outlinedRun, cleansAgain, secondCleaning, Result, process}
+use Rattle.rules.specs.Rows.{badIndex, noEntry}
+use Rattle.rules.specs.Entries.{factsOf, runRefusal, runAnswer, runCells, runPalette}
+use Rattle.rules.proofs.Sizes.{needed-least, canvas-area, canvas-sides, toned-count, toned-length}
+use Rattle.rules.proofs.Opacity.{Alike, trans, cleaned-alike, cut-alike, pads-same, ring-same, canvas-alike, Shown, line-shown}
 use Rattle.orphans.specs.Entry.{Fit}
 use Rattle.outline.specs.Drawing.{Drew}
-use Rattle.outline.proofs.Refusing.{needed-least, past-3, past-8, not-refused}
-use Rattle.checks.proofs.Answers.{refused, granted}
-use Rattle.run_checks.proofs.Refusing.{Call, sheet, allowed, padding, judged, Granted, granting}
+use Rattle.refusals.specs.Room.{Room}
+use Rattle.run_refusals.proofs.Refusing.{padding, Granted, granting}
 use Rattle.postprocess.proofs.Fronts.{Stands, stands-start, stands-size, stands-sheet, stands-next}
 use Rattle.postprocess.proofs.Holding.{area-same, Holds, reads, keeps, sized}
-use Rattle.postprocess.proofs.Indices.{Named, named, row-clear, tidied-named, cut-named}
+use Rattle.postprocess.proofs.Indices.{Named, named, row-clear, cleaned-named, cut-named}
 use Rattle.postprocess.proofs.Lines.{Lined, lined}
-
--- ---- saturation keeps the palette's size
-
-toned-count : (kept : Bool) (config : PostConfig) (palette : Palette) → toned kept config palette .count ≡ palette .count
-unfolding toned saturate
-toned-count true config palette = refl
-toned-count false config palette = refl
-
-toned-length : (kept : Bool) (config : PostConfig) (palette : Palette) → 3 * palette .count ≤ length (palette .lab) → length (toned kept config palette .lab) ≡ length (palette .lab)
-unfolding toned saturate
-toned-length true config palette h = refl
-toned-length false config palette h = filled-length (3 * palette .count) _ (palette .lab) h
 
 -- ---- sheets alike have a ring alike
 
@@ -53,29 +41,14 @@ ring-alike : {s t : Sheet} → Alike s t → hasRing t ≡ hasRing s
 unfolding hasRing
 ring-alike {s} {t} k = ap (λ (n : ℕ). any n (ring t)) (area-same k) ∙ any-same (area s) (ring t) (ring s) (λ p h. ring-same k p)
 
--- ---- the canvas has the needed cells, and at most 514 rows and columns
-
-canvas-area : (b : Bool) (s : Sheet) → area (canvas b s) ≡ needed (s .height) (s .width) b
-unfolding canvas padded area needed
-canvas-area true s = refl
-canvas-area false s = refl
-
-canvas-sides : (b : Bool) (s : Sheet) → s .height ≤ 512 → s .width ≤ 512 → (canvas b s .height ≤ 514) × (canvas b s .width ≤ 514)
-unfolding canvas padded
-canvas-sides true s h w = (omega arith, omega arith)
-canvas-sides false s h w = (omega arith, omega arith)
-
 -- ---- what the steps of a call come to
 
 -- the three promises of a call, of its answer, of the cells and of the doubles
-abbrev pub Met : Call → Processing → List ℤ → List Float → Type 0
-Met x answer cells lab =
-    (answer ≡ runAnswer (x .cells) (x .h) (x .w) (x .palette) (x .config) (x .saturated) (x .fixed) (x .margin) (x .work))
-    × ((cells ≡ runCells (x .cells) (x .h) (x .w) (x .palette) (x .config) (x .saturated) (x .fixed) (x .margin) (x .work))
-    × (lab ≡ runPalette (x .cells) (x .h) (x .w) (x .palette) (x .config) (x .saturated) (x .fixed) (x .margin) (x .work)))
+abbrev pub Met : RunCall → Processing → List ℤ → List Float → Type 0
+Met x answer cells lab = (answer ≡ runAnswer x) × (cells ≡ runCells x) × (lab ≡ runPalette x)
 
 -- what an accepted call leaves, with so many cells lent: sides and colours in range, cells within the lent ones, and all doubles
-pub record Left (r : Ran) (lent : ℕ) : Type 0 where
+pub record Left (r : Result) (lent : ℕ) : Type 0 where
   pub high : r .sheet .height ≤ 514
   pub wide : r .sheet .width ≤ 514
   pub held : r .sheet .height * r .sheet .width ≤ lent
@@ -83,33 +56,47 @@ pub record Left (r : Ran) (lent : ℕ) : Type 0 where
   pub full : length (r .palette .lab) ≡ 768
 
 -- a call that is refused leaves both lists
-pub met-refused : (x : Call) (n : ℕ) → judged x ≡ some n → Met x (Refused n) (x .cells) (x .palette .lab)
+pub met-refused : (x : RunCall) (n : ℕ) → runRefusal x ≡ some n → Met x (Refused n) (x .lent .cells) (x .palette .lab)
 unfolding runAnswer runCells runPalette
-met-refused x n e = (refused _ _ n e, (refused _ _ n e, refused _ _ n e))
+met-refused x n e = (some-unless _ _ e, some-unless _ _ e, some-unless _ _ e)
 
-module _ (x : Call) where
-  -- the palette after saturation; the sheet after the first cleaning, after corners, after the outline, and after the second cleaning
+module _ (x : RunCall) where
+  -- sides of the lent sheet, the sheet as it came, the palette after saturation
+  abbrev h : ℕ
+  h = x .lent .height
+
+  abbrev w : ℕ
+  w = x .lent .width
+
+  abbrev pub came : Sheet
+  came = sheetIn (x .lent)
+
   abbrev pub ink : Palette
-  ink = toned (x .saturated || x .fixed) (x .config) (x .palette)
+  ink = tonedPalette x
 
+  -- the settings of cleaning
   abbrev on : Bool
   on = x .config .«remove_orphans»
 
+  abbrev limits : Limits
+  limits = limitsOf (x .config)
+
+  -- the sheet after the first cleaning, after corners, after the outline, and after the second cleaning
   abbrev pub first : Sheet
-  first = tidyIf on 5 ink (limitsOf (x .config)) (sheet x) .sheet
+  first = firstCleaning x .sheet
 
   abbrev pub cut : Sheet
   cut = cond (x .config .«fix_jaggies») (trim first) first
 
   abbrev pub line : Outlined
-  line = outlineIf (x .fixed) (x .config) (x .margin) cut ink
+  line = outlinedRun x
 
   abbrev second : Sheet
-  second = tidyIf (on && asked (x .config .outline)) 1 (line .palette) (limitsOf (x .config)) (line .sheet) .sheet
+  second = secondCleaning (x .config) line .sheet
 
   -- what the lists hold after a step before the outline
   abbrev pub Held : Sheet → List ℤ → List Float → Type 0
-  Held s cells lab = Holds (x .cells) s ink cells (x .h) (x .w) lab (x .palette .count)
+  Held s cells lab = Holds (x .lent .cells) s ink cells h w lab (x .palette .count)
 
   -- every cell names an entry, if cleaning is on and regions can be small
   abbrev Known : Sheet → Palette → Type 0
@@ -119,13 +106,13 @@ module _ (x : Call) where
   record Cleanable (s : Sheet) (p : Palette) : Type 0 where
     pub rows : s .height ≤ 514
     pub cols : s .width ≤ 514
-    pub planes : 8 * area s ≤ x .work
+    pub planes : 8 * area s ≤ x .lent .work
     pub entries : p .count ≤ 256
     pub doubles : length (p .lab) ≡ 768
     pub known : Known s p
 
-  fit : {s : Sheet} {p : Palette} {cells : List ℤ} {h w : ℕ} {lab : List Float} {k : ℕ} → Holds (x .cells) s p cells h w lab k → Cleanable s p → on ≡ true
-      → Fit cells h w lab k (x .config .«orphan_min_region») (x .work)
+  fit : {s : Sheet} {p : Palette} {cells : List ℤ} {h w : ℕ} {lab : List Float} {k : ℕ} → Holds (x .lent .cells) s p cells h w lab k → Cleanable s p → on ≡ true
+      → Fit cells h w lab k (x .config .«orphan_min_region») (x .lent .work)
   unfolding sheetOf area
   fit {s} {p} {cells} {h} {w} {lab} {k} a c y =
       let e : h * w ≡ s .height * s .width = ap area (a .sheet) in
@@ -141,125 +128,124 @@ module _ (x : Call) where
 
   -- ---- the steps of a call that is accepted
 
-  module _ (ok : judged x ≡ none) where
+  module _ (ok : runRefusal x ≡ none) where
     g : Granted x
     g = granting x ok
 
     pub in-doubles : (3 * x .palette .count ≤ length (x .palette .lab)) × (x .palette .count ≤ 256)
     in-doubles = (omega (arith, g .few, g .full), g .few)
 
-    start : Stands (x .cells) (sheet x) (x .cells)
-    start = stands-start (x .cells) (x .h) (x .w) (omega (arith, g .roomy .lent, needed-least (x .h) (x .w) (padding x)))
+    start : Stands (x .lent .cells) came (x .lent .cells)
+    start = stands-start (x .lent .cells) h w (omega (arith, g .room .held, needed-least h w (padding x)))
 
     ink-count : ink .count ≡ x .palette .count
+    unfolding tonedPalette
     ink-count = toned-count (x .saturated || x .fixed) (x .config) (x .palette)
 
     ink-length : length (ink .lab) ≡ 768
+    unfolding tonedPalette
     ink-length = toned-length (x .saturated || x .fixed) (x .config) (x .palette) (in-doubles .0) ∙ g .full
 
     -- saturation
-    pub toned-holds : {kept : Bool} {lab : List Float} → kept ≡ (x .saturated || x .fixed) → lab ≡ toned kept (x .config) (x .palette) .lab → Held (sheet x) (x .cells) lab
+    pub toned-holds : {kept : Bool} {lab : List Float} → kept ≡ (x .saturated || x .fixed) → lab ≡ toned kept (x .config) (x .palette) .lab → Held came (x .lent .cells) lab
+    unfolding tonedPalette
     toned-holds e f =
         let l = f ∙ ap (λ (b : Bool). toned b (x .config) (x .palette) .lab) e in
         record { stands = start; sheet = refl; palette = λ i. record { lab = l i; count = sym ink-count i } }
 
     -- the first cleaning
-    known-before : Known (sheet x) ink
+    known-before : Known came ink
     known-before y l =
-        subst (λ (n : ℕ). Named n (sheet x .cells)) (sym ink-count)
-        (named on (x .config .«orphan_min_region») (x .palette) (sheet x) (start .full) y l (g .indices))
+        subst (λ (n : ℕ). Named n (came .cells)) (sym ink-count)
+        (named on (x .config .«orphan_min_region») (x .palette) came (start .full) y l (g .indices))
 
-    cleanable-before : Cleanable (sheet x) ink
+    cleanable-before : Cleanable came ink
     unfolding sheetOf area
     cleanable-before =
         record {
-          rows = omega (arith, g .roomy .high);
-          cols = omega (arith, g .roomy .wide);
-          planes = omega (arith, g .roomy .free, needed-least (x .h) (x .w) (padding x));
+          rows = omega (arith, g .room .high);
+          cols = omega (arith, g .room .wide);
+          planes = omega (arith, g .room .free, needed-least h w (padding x));
           entries = omega (arith, g .few, ink-count);
           doubles = ink-length;
           known = known-before;
         }
 
-    pub first-fit : {cells : List ℤ} {lab : List Float} → Held (sheet x) cells lab → on ≡ true → Fit cells (x .h) (x .w) lab (x .palette .count) (x .config .«orphan_min_region») (x .work)
+    pub first-fit : {cells : List ℤ} {lab : List Float} → Held came cells lab → on ≡ true → Fit cells h w lab (x .palette .count) (x .config .«orphan_min_region») (x .lent .work)
     first-fit a = fit a cleanable-before
 
-    alike-first : Alike (sheet x) first
-    alike-first = tidied-alike on 5 ink (limitsOf (x .config)) (sheet x) (start .full)
+    alike-first : Alike came first
+    unfolding firstCleaning
+    alike-first = cleaned-alike on 5 ink limits came (start .full)
 
-    pub first-passes : {cells : List ℤ} {lab : List Float} {n : ℕ} → Held (sheet x) cells lab
-        → n ≡ tidyIf on 5 (paletteOf lab (x .palette .count)) (limitsOf (x .config)) (sheetOf cells (x .h) (x .w)) .passes → n ≡ tidyIf on 5 ink (limitsOf (x .config)) (sheet x) .passes
-    first-passes a e = e ∙ reads a (λ t q. tidyIf on 5 q (limitsOf (x .config)) t .passes)
+    pub first-passes : {cells : List ℤ} {lab : List Float} {n : ℕ} → Held came cells lab
+        → n ≡ cleanSheetIf on 5 (paletteOf lab (x .palette .count)) limits (sheetOf cells h w) .passes → n ≡ cleanSheetIf on 5 ink limits came .passes
+    unfolding firstCleaning
+    first-passes a e = e ∙ reads a (λ t q. cleanSheetIf on 5 q limits t .passes)
 
-    pub first-holds : {cells new : List ℤ} {lab : List Float} → Held (sheet x) cells lab
-        → new ≡ over (tidyIf on 5 (paletteOf lab (x .palette .count)) (limitsOf (x .config)) (sheetOf cells (x .h) (x .w)) .sheet .cells) cells → Held first new lab
-    first-holds a = keeps a (λ t q. tidyIf on 5 q (limitsOf (x .config)) t .sheet) alike-first
+    pub first-holds : {cells new : List ℤ} {lab : List Float} → Held came cells lab
+        → new ≡ over (cleanSheetIf on 5 (paletteOf lab (x .palette .count)) limits (sheetOf cells h w) .sheet .cells) cells → Held first new lab
+    unfolding firstCleaning
+    first-holds a = keeps a (λ t q. cleanSheetIf on 5 q limits t .sheet) alike-first
 
     -- corners
-    pub trim-room : {s : Sheet} {cells : List ℤ} {lab : List Float} {room : ℕ} → Held s cells lab → room ≡ x .work
-        → (x .h ≤ 512) × (x .w ≤ 512) × (x .h * x .w ≤ length cells) × (8 * (x .h * x .w) ≤ room)
-    trim-room a e = (g .roomy .high, g .roomy .wide, sized a, omega (arith, e, g .roomy .free, needed-least (x .h) (x .w) (padding x)))
+    pub trim-room : {s : Sheet} {cells : List ℤ} {lab : List Float} {room : ℕ} → Held s cells lab → room ≡ x .lent .work
+        → (h ≤ 512) × (w ≤ 512) × (h * w ≤ length cells) × (8 * (h * w) ≤ room)
+    trim-room a e = (g .room .high, g .room .wide, sized a, omega (arith, e, g .room .free, needed-least h w (padding x)))
 
-    alike-cut : Alike (sheet x) cut
+    alike-cut : Alike came cut
     alike-cut = trans alike-first (cut-alike (x .config .«fix_jaggies») first (alike-first .full))
 
     pub cut-holds : {cells new : List ℤ} {lab : List Float} → Held first cells lab
-        → new ≡ over (cond (x .config .«fix_jaggies») (trim (sheetOf cells (x .h) (x .w))) (sheetOf cells (x .h) (x .w)) .cells) cells → Held cut new lab
+        → new ≡ over (cond (x .config .«fix_jaggies») (trim (sheetOf cells h w)) (sheetOf cells h w) .cells) cells → Held cut new lab
     cut-holds a = keeps a (λ t q. cond (x .config .«fix_jaggies») (trim t) t) (cut-alike (x .config .«fix_jaggies») first (alike-first .full))
 
     -- the outline
-    pads-cut : pads (allowed x) (x .config .outline) cut ≡ padding x
-    pads-cut = pads-same alike-cut (allowed x) (x .config .outline)
+    pads-cut : pads (drawingOf x) cut ≡ padding x
+    pads-cut = pads-same alike-cut (drawingOf x)
 
-    canvas-cut : Alike (canvas (padding x) (sheet x)) (canvas (pads (allowed x) (x .config .outline) cut) cut)
-    canvas-cut = subst (λ (b : Bool). Alike (canvas (padding x) (sheet x)) (canvas b cut)) (sym pads-cut) (canvas-alike alike-cut (start .full) (padding x))
+    canvas-cut : Alike (canvas (padding x) came) (canvas (pads (drawingOf x) cut) cut)
+    canvas-cut = subst (λ (b : Bool). Alike (canvas (padding x) came) (canvas b cut)) (sym pads-cut) (canvas-alike alike-cut (start .full) (padding x))
 
-    entry-cut : noEntry (x .fixed) (x .config .outline) ink (canvas (pads (allowed x) (x .config .outline) cut) cut) .applies ≡ false
+    entry-cut : noEntry (drawingOf x) ink (canvas (pads (drawingOf x) cut) cut) .applies ≡ false
     unfolding noEntry
     entry-cut = rw (ring-alike canvas-cut, ink-count) (g .entry)
 
-    palette-good : badPalette ink .applies ≡ false
-    unfolding badPalette
-    palette-good = rw (le-ltb 256 (ink .count) (omega (arith, g .few, ink-count)), eq-eqb (length (ink .lab)) 768 ink-length)
-
-    sides-good : tooLarge (x .h) (x .w) .applies ≡ false
-    unfolding tooLarge
-    sides-good = rw (le-ltb 512 (x .h) (g .roomy .high), le-ltb 512 (x .w) (g .roomy .wide))
-
-    drawable : {cells : List ℤ} {lab : List Float} → Held cut cells lab → asked (x .config .outline) ≡ true
-        → outlineRefusal cells (x .h) (x .w) (paletteOf lab (x .palette .count)) (x .config .outline) (allowed x) (x .fixed) (x .work) ≡ none
-    unfolding noEntry
-    drawable {cells} {lab} a y =
-        let how = x .config .outline in
-        let s = sheetOf cells (x .h) (x .w) in
-        let p = paletteOf lab (x .palette .count) in
-        let n = reads a (λ t q. needed (x .h) (x .w) (pads (allowed x) how t)) ∙ ap (needed (x .h) (x .w)) pads-cut in
-        not-refused cells (x .h) (x .w) p how (allowed x) (x .fixed) (x .work)
-        (sym (past-3 (x .h) (x .w) (length cells) (x .work) (needed (x .h) (x .w) (pads (allowed x) how s)) sides-good
-        (omega (arith, n, g .roomy .lent, stands-size (a .stands))) (omega (arith, n, g .roomy .free))))
-        (sym (past-8 p how (x .fixed) (canvas (pads (allowed x) how s) s) (reads a (λ t q. badPalette q .applies) ∙ palette-good) (reads a (λ t q. outOfRange q) ∙ g .tones) y (g .darkening)
-        (reads a (λ t q. noEntry (x .fixed) how q (canvas (pads (allowed x) how t) t) .applies) ∙ entry-cut)))
-
-    pub never-refused : {cells : List ℤ} {lab : List Float} {pad : Bool} {room : ℕ} → Held cut cells lab → pad ≡ allowed x → room ≡ x .work → asked (x .config .outline) ≡ true
-        → outlineRefusal cells (x .h) (x .w) (paletteOf lab (x .palette .count)) (x .config .outline) pad (x .fixed) room ≡ none
-    never-refused a e f y = rw (e, f) (drawable a y)
+    -- its room, and that of the palette
+    pub line-room : {cells : List ℤ} {lab : List Float} {room : ℕ} → Held cut cells lab → room ≡ x .lent .work
+        → Room h w (needed h w (pads (drawingOf x) (sheetOf cells h w))) (length cells) room × (length lab ≡ 768) × (x .palette .count ≤ 256)
+    line-room {cells} {lab} a e =
+        let n = reads a (λ t q. needed h w (pads (drawingOf x) t)) ∙ ap (needed h w) pads-cut in (
+          record {
+            high = g .room .high;
+            wide = g .room .wide;
+            few = g .room .few;
+            held = omega (arith, n, g .room .held, stands-size (a .stands));
+            free = omega (arith, n, e, g .room .free);
+          },
+          ap (λ (q : Palette). length (q .lab)) (a .palette) ∙ ink-length,
+          g .few,
+        )
 
     known-cut : Known cut ink
+    unfolding firstCleaning
     known-cut y l =
-        cut-named first (tidied-named on 5 ink (limitsOf (x .config)) (sheet x) (start .full) (known-before y l)) (x .config .«fix_jaggies»)
+        cut-named first (cleaned-named on 5 ink limits came (start .full) (known-before y l)) (x .config .«fix_jaggies»)
 
     lined-cut : Lined ink cut line
-    lined-cut = lined (x .fixed) (x .config) (x .margin) cut ink (omega (arith, g .few, ink-count)) entry-cut
+    unfolding outlinedRun
+    lined-cut = lined (λ i. true) (drawingOf x) ink cut (omega (arith, g .few, ink-count)) entry-cut
 
     shown-cut : Shown (asked (x .config .outline)) (canvas (padding x) cut) (line .sheet)
+    unfolding outlinedRun drawingOf
     shown-cut =
-        subst (λ (b : Bool). Shown (asked (x .config .outline)) (canvas b cut) (line .sheet)) pads-cut (line-shown (x .fixed) (x .config) (x .margin) cut ink (alike-cut .full))
+        subst (λ (b : Bool). Shown (asked (x .config .outline)) (canvas b cut) (line .sheet)) pads-cut (line-shown (λ i. true) (drawingOf x) ink cut (alike-cut .full))
 
-    cut-area : area cut ≡ x .h * x .w
+    cut-area : area cut ≡ h * w
     unfolding area sheetOf
     cut-area = rw (alike-cut .height, alike-cut .width)
 
-    line-area : area (line .sheet) ≡ needed (x .h) (x .w) (padding x)
+    line-area : area (line .sheet) ≡ needed h w (padding x)
     unfolding area sheetOf
     line-area = rw (shown-cut .height, shown-cut .width) (canvas-area (padding x) cut ∙ rw (alike-cut .height, alike-cut .width))
 
@@ -268,17 +254,18 @@ module _ (x : Call) where
     Told facts = facts ≡ factsOf (line .sheet) (line .palette) (line .index) (line .clipped)
 
     module _ {cells new : List ℤ} {lab doubles : List Float} {facts : Facts} (a : Held cut cells lab)
-        (d : Drew (outlineIf (x .fixed) (x .config) (x .margin) (sheetOf cells (x .h) (x .w)) (paletteOf lab (x .palette .count))) cells facts new doubles) where
+        (d : Drew (outlineIf (λ i. true) (drawingOf x) (paletteOf lab (x .palette .count)) (sheetOf cells h w)) cells facts new doubles) where
       drew : Drew line cells facts new doubles
-      drew = subst (λ (o : Outlined). Drew o cells facts new doubles) (reads a (outlineIf (x .fixed) (x .config) (x .margin))) d
+      unfolding outlinedRun
+      drew = subst (λ (o : Outlined). Drew o cells facts new doubles) (reads a (λ t q. outlineIf (λ i. true) (drawingOf x) q t)) d
 
       pub line-told : Told facts
       line-told = drew .told
 
-      pub line-holds : Holds (x .cells) (line .sheet) (line .palette) new (facts .height) (facts .width) doubles (facts .colours)
+      pub line-holds : Holds (x .lent .cells) (line .sheet) (line .palette) new (facts .height) (facts .width) doubles (facts .colours)
       unfolding factsOf
       line-holds =
-          let n = stands-next (a .stands) (drew .cells) (shown-cut .full) (omega (arith, line-area, cut-area, needed-least (x .h) (x .w) (padding x))) (omega (arith, line-area, g .roomy .lent)) in
+          let n = stands-next (a .stands) (drew .cells) (shown-cut .full) (omega (arith, line-area, cut-area, needed-least h w (padding x))) (omega (arith, line-area, g .room .held)) in
           record {
             stands = n;
             sheet = stands-sheet (facts .height) (facts .width) n (sym (ap (λ (f : Facts). f .height) line-told)) (sym (ap (λ (f : Facts). f .width) line-told));
@@ -289,37 +276,38 @@ module _ (x : Call) where
     cleanable-line : Cleanable (line .sheet) (line .palette)
     unfolding sheetOf
     cleanable-line =
-        let h : cut .height ≤ 512 = subst (λ (n : ℕ). n ≤ 512) (sym (alike-cut .height)) (g .roomy .high) in
-        let w : cut .width ≤ 512 = subst (λ (n : ℕ). n ≤ 512) (sym (alike-cut .width)) (g .roomy .wide) in
+        let h : cut .height ≤ 512 = subst (λ (n : ℕ). n ≤ 512) (sym (alike-cut .height)) (g .room .high) in
+        let w : cut .width ≤ 512 = subst (λ (n : ℕ). n ≤ 512) (sym (alike-cut .width)) (g .room .wide) in
         let k = canvas-sides (padding x) cut h w in
         record {
           rows = subst (λ (n : ℕ). n ≤ 514) (sym (shown-cut .height)) (k .0);
           cols = subst (λ (n : ℕ). n ≤ 514) (sym (shown-cut .width)) (k .1);
-          planes = omega (arith, line-area, g .roomy .free);
+          planes = omega (arith, line-area, g .room .free);
           entries = lined-cut .few;
           doubles = lined-cut .full ∙ ink-length;
           known = λ y l. lined-cut .named (known-cut y l);
         }
 
     alike-second : Alike (line .sheet) second
-    alike-second = tidied-alike (on && asked (x .config .outline)) 1 (line .palette) (limitsOf (x .config)) (line .sheet) (shown-cut .full)
+    unfolding secondCleaning
+    alike-second = cleaned-alike (cleansAgain (x .config)) 1 (line .palette) limits (line .sheet) (shown-cut .full)
 
-    pub left : Left (process (x .config) (x .saturated) (x .fixed) (x .margin) (sheet x) (x .palette)) (length (x .cells))
-    unfolding process area
+    pub left : Left (process x) (length (x .lent .cells))
+    unfolding process secondCleaning area
     left =
         record {
           high = subst (λ (n : ℕ). n ≤ 514) (sym (alike-second .height)) (cleanable-line .rows);
           wide = subst (λ (n : ℕ). n ≤ 514) (sym (alike-second .width)) (cleanable-line .cols);
-          held = rw (alike-second .height, alike-second .width) (omega (arith, line-area, g .roomy .lent));
+          held = rw (alike-second .height, alike-second .width) (omega (arith, line-area, g .room .held));
           few = cleanable-line .entries;
           full = cleanable-line .doubles;
         }
 
-    abbrev redo : Sheet → Palette → Tidied
-    redo t q = tidyIf (on && asked (x .config .outline)) 1 q (limitsOf (x .config)) t
+    abbrev redo : Sheet → Palette → CleanedSheet
+    redo t q = cleanSheetIf (cleansAgain (x .config)) 1 q limits t
 
-    module _ {cells : List ℤ} {h w : ℕ} {lab : List Float} {k : ℕ} (a : Holds (x .cells) (line .sheet) (line .palette) cells h w lab k) where
-      pub second-fit : {room : ℕ} → room ≡ x .work → on ≡ true → Fit cells h w lab k (x .config .«orphan_min_region») room
+    module _ {cells : List ℤ} {h w : ℕ} {lab : List Float} {k : ℕ} (a : Holds (x .lent .cells) (line .sheet) (line .palette) cells h w lab k) where
+      pub second-fit : {room : ℕ} → room ≡ x .lent .work → on ≡ true → Fit cells h w lab k (x .config .«orphan_min_region») room
       second-fit e y = rw e (fit a cleanable-line y)
 
       -- the palette's doubles are as many as they were
@@ -338,10 +326,10 @@ module _ (x : Call) where
           })
 
       -- all of it is the rule
-      pub met-processed : {facts : Facts} {n m : ℕ} {new : List ℤ} → n ≡ tidyIf on 5 ink (limitsOf (x .config)) (sheet x) .passes → Told facts
+      pub met-processed : {facts : Facts} {n m : ℕ} {new : List ℤ} → n ≡ cleanSheetIf on 5 ink limits came .passes → Told facts
           → m ≡ redo (sheetOf cells h w) (paletteOf lab k) .passes → new ≡ over (redo (sheetOf cells h w) (paletteOf lab k) .sheet .cells) cells → Met x (Processed facts n m) new lab
-      unfolding runAnswer runCells runPalette process
+      unfolding runAnswer runCells runPalette process firstCleaning secondCleaning
       met-processed once is more e =
           let twice = more ∙ reads a (λ t q. redo t q .passes) in
           let last = keeps a (λ t q. redo t q .sheet) alike-second e in
-          ((λ i. Processed (told-second is i) (once i) (twice i)) ∙ granted _ _ ok, (last .stands .is ∙ granted _ _ ok, ap (λ (q : Palette). q .lab) (a .palette) ∙ granted _ _ ok))
+          (none-unless _ _ ok (λ i. Processed (told-second is i) (once i) (twice i)), none-unless _ _ ok (last .stands .is), none-unless _ _ ok (ap (λ (q : Palette). q .lab) (a .palette)))

@@ -13,14 +13,15 @@ use lib.ListN.{length, getD, List·getD-eq-default}
 use borrow.Author.Tests.{lt-leb}
 use Rattle.base.specs.Places.{table, any}
 use Rattle.base.proofs.Counting.{case, clash, left, right, no-leb, any-no, any-yes, table-at, table-length}
+use Rattle.rules.specs.declared.Limits.{Limits}
 use Rattle.rules.specs.Sheet.{Sheet, area}
 use Rattle.rules.specs.Palette.{Palette}
 use Rattle.rules.specs.Regions.{Symmetric, at, here}
 use Rattle.rules.specs.Pass.{Rule, State, fates, pass, repaints, moves, fresh, clean}
 use Rattle.rules.specs.Grid.{stepTo}
-use Rattle.rules.specs.Corners.{Corner, corners, minusOne, opposite, isCorner, trimmedBy, trimmed, trim}
+use Rattle.rules.specs.Corners.{Corner, corners, look, opposite, isCorner, trimmedBy, trimmed, trim}
 use Rattle.rules.specs.Outline.{paddedAt, padded, canvas, ring, inked}
-use Rattle.rules.specs.Run.{Limits, ruleOn, tidy, tidyIf}
+use Rattle.rules.specs.Run.{ruleOn, ruleFor, cleanSheet, cleanSheetIf}
 use Rattle.rules.specs.Rows.{badIndex}
 use Rattle.rules.proofs.Grids.{eight-symmetric}
 use Rattle.rules.proofs.Passes.{pass-length, repainted, unpainted-kept}
@@ -79,12 +80,12 @@ module _ (rule : Rule) (symm : Symmetric (rule .adj)) where
       let b = pass-source s len (a .0) in (b .0, a .1 ∙ b .1)))
       (λ z. rw (clean-stop rule k s z) (pass-source s len x))
 
-pub tidied-named : (on : Bool) (k : ℕ) (palette : Palette) (limits : Limits) (s : Sheet) {n : ℕ} → length (s .cells) ≡ area s → Named n (s .cells) → Named n (tidyIf on k palette limits s .sheet .cells)
-unfolding tidyIf tidy ruleOn fresh
-tidied-named true k palette limits s {n} len a =
+pub cleaned-named : (on : Bool) (k : ℕ) (palette : Palette) (limits : Limits) (s : Sheet) {n : ℕ} → length (s .cells) ≡ area s → Named n (s .cells) → Named n (cleanSheetIf on k palette limits s .sheet .cells)
+unfolding cleanSheetIf cleanSheet ruleFor ruleOn fresh
+cleaned-named true k palette limits s {n} len a =
     let rule = ruleOn (area s) (s .width) palette limits in
     record { below = λ p. let w = clean-source rule (eight-symmetric (s .width)) k (fresh rule (s .cells)) len p in ap (leZ (pos n)) (w .1) ∙ a .below (w .0) }
-tidied-named false k palette limits s len a = a
+cleaned-named false k palette limits s len a = a
 
 -- ---- cells made by a table
 
@@ -105,10 +106,10 @@ either-named k false x y e f = f
 
 module _ (s : Sheet) {k : ℕ} (a : Named k (s .cells)) where
   opposite-named : (p : ℕ) (c : Corner) → leZ (pos k) (opposite s p c) ≡ false
-  unfolding opposite
+  unfolding opposite look
   opposite-named p c = go (stepTo (s .height) (s .width) (p / s .width) (p % s .width) (negℤ (c .sy)) (negℤ (c .sx)))
     where
-      go : (o : Option ℕ) → leZ (pos k) (elim o [ none ↦ minusOne | some q ↦ at (s .cells) q ]) ≡ false
+      go : (o : Option ℕ) → leZ (pos k) (elim (elim o as (λ x. Option ℤ) [ none ↦ none | some q ↦ some (at (s .cells) q) ]) [ none ↦ negsuc 0 | some b ↦ b ]) ≡ false
       go none = refl
       go (some q) = a .below q
 

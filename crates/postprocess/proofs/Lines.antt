@@ -8,21 +8,20 @@ use native.Mathlib.Nat.{le-refl}
 use native.Mathlib.Decide.{decLt}
 use native.Mathlib.Omega.{arith}
 use lib.Dec.{ltb, eqb}
-use lib.IntN.{ℤ}
 use lib.Ieee.{Float}
 use lib.ListN.{length, length-set}
 use borrow.Author.Tests.{ltb-true, ltb-false, eq-eqb}
 use Rattle.color.specs.declared.Lab.{Lab}
 use Rattle.color.specs.Lab.{labToRgb8}
-use Rattle.rules.specs.declared.Outline.{Outline}
-use Rattle.rules.specs.declared.PostConfig.{PostConfig}
+use Rattle.rules.specs.declared.Drawing.{Drawing}
 use Rattle.rules.specs.Sheet.{Sheet}
 use Rattle.rules.specs.Palette.{Palette, colour, recoloured, firstWhere, firstLeast}
 use Rattle.rules.specs.Outline.{asked, pads, canvas, hasRing, sameRgb8, nearestEntry, lineColour, Choice, reuse, append, replace, choice, chosenIndex, chosenPalette, Outlined, drawn, outline}
-use Rattle.rules.specs.Run.{padAllowed, outlineIf}
+use Rattle.rules.specs.Run.{outlineIf}
 use Rattle.rules.specs.Rows.{isAuto, noEntry}
 use Rattle.base.proofs.Counting.{case, clash, both, or-right}
-use Rattle.line.proofs.Scans.{least-below, chosen-below, where-below}
+use Rattle.rules.proofs.Least.{least-some}
+use Rattle.outline_entry.proofs.Scans.{chosen-below, where-below}
 use Rattle.postprocess.proofs.Indices.{Named, named-more, canvas-named, inked-named}
 
 -- ---- the choice of an entry
@@ -51,24 +50,24 @@ made-entered palette c append few (appended h) =
     record { below = omega arith; more = omega arith; few = omega arith; full = recoloured-length (palette .lab) (palette .count) c }
 made-entered palette c (replace i) few (replaced h) = record { below = h; more = le-refl _; few = few; full = recoloured-length (palette .lab) i c }
 
-nearest-in : (palette : Palette) (c : Lab) → 0 < palette .count → nearestEntry (λ i. true) palette c < palette .count
+nearest-in : (may : ℕ → Bool) (palette : Palette) (c : Lab) → 0 < palette .count → nearestEntry may palette c < palette .count
 unfolding nearestEntry
-nearest-in palette c h = chosen-below (firstLeast (λ i. true) _ (palette .count)) (palette .count) h (λ b e. least-below (λ i. true) _ (palette .count) b e)
+nearest-in may palette c h = chosen-below (firstLeast may _ (palette .count)) (palette .count) h (λ b e. least-some may _ (palette .count) b e .0)
 
-made : (fixed : Bool) (palette : Palette) (c : Lab) → (fixed ≡ true → 0 < palette .count) → Made palette (choice fixed palette c)
+made : (may : ℕ → Bool) (fixed : Bool) (palette : Palette) (c : Lab) → (fixed ≡ true → 0 < palette .count) → Made palette (choice may fixed palette c)
 unfolding choice
-made true palette c f = reused (nearest-in palette c (f refl))
-made false palette c f = go (firstWhere same (palette .count)) (where-below same (palette .count))
+made may true palette c f = reused (nearest-in _ palette c (f refl))
+made may false palette c f = go (firstWhere same (palette .count)) (where-below same (palette .count))
   where
     same : ℕ → Bool
     same i = sameRgb8 (labToRgb8 (colour palette i)) (labToRgb8 c)
 
-    room : (b : Bool) → ltb (palette .count) 256 ≡ b → Made palette (cond b append (replace (nearestEntry (λ i. true) palette c)))
+    room : (b : Bool) → ltb (palette .count) 256 ≡ b → Made palette (cond b append (replace (nearestEntry may palette c)))
     room true e = appended (ltb-true (palette .count) 256 e)
-    room false e = replaced (nearest-in palette c (omega (arith, ltb-false (palette .count) 256 e)))
+    room false e = replaced (nearest-in may palette c (omega (arith, ltb-false (palette .count) 256 e)))
 
     go : (o : Option ℕ) → ((b : ℕ) → o ≡ some b → b < palette .count)
-        → Made palette (elim o [ some i ↦ reuse i | none ↦ cond (ltb (palette .count) 256) append (replace (nearestEntry (λ i. true) palette c)) ])
+        → Made palette (elim o [ some i ↦ reuse i | none ↦ cond (ltb (palette .count) 256) append (replace (nearestEntry may palette c)) ])
     go none g = room (ltb (palette .count) 256) refl
     go (some i) g = reused (g i refl)
 
@@ -80,34 +79,34 @@ pub record Lined (palette : Palette) (s : Sheet) (o : Outlined) : Type 0 where
   pub full : length (o .palette .lab) ≡ length (palette .lab)
   pub named : Named (palette .count) (s .cells) → Named (o .palette .count) (o .sheet .cells)
 
-module _ (fixed : Bool) (config : PostConfig) (margin : ℤ) (s : Sheet) (palette : Palette) (few : palette .count ≤ 256) where
-  abbrev how : Outline
-  how = config .outline
-
+module _ (may : ℕ → Bool) (how : Drawing) (palette : Palette) (s : Sheet) (few : palette .count ≤ 256) where
   abbrev on : Sheet
-  on = canvas (pads (padAllowed config margin) how s) s
+  on = canvas (pads how s) s
+
+  abbrev fixed : Bool
+  fixed = how .«fixed_palette»
 
   -- a ring that is asked for finds an entry in a fixed palette
-  an-entry : noEntry fixed how palette on .applies ≡ false → asked how ≡ true → hasRing on ≡ true → fixed ≡ true → 0 < palette .count
+  an-entry : noEntry how palette on .applies ≡ false → asked (how .outline) ≡ true → hasRing on ≡ true → fixed ≡ true → 0 < palette .count
   unfolding noEntry
   an-entry z y r f = elim (decLt 0 (palette .count)) [
     | yes h ↦ h
     | no h ↦ (let e : palette .count ≡ 0 = omega arith in
-        let x : (asked how && hasRing on && eqb (palette .count) 0 && (isAuto how || fixed)) ≡ true = both (both (both y r) (eq-eqb (palette .count) 0 e)) (or-right (isAuto how) f) in
+        let x : (asked (how .outline) && hasRing on && eqb (palette .count) 0 && (isAuto (how .outline) || fixed)) ≡ true = both (both (both y r) (eq-eqb (palette .count) 0 e)) (or-right (isAuto (how .outline)) f) in
         clash x z)
   ]
 
-  pub lined : noEntry fixed how palette on .applies ≡ false → Lined palette s (outlineIf fixed config margin s palette)
+  pub lined : noEntry how palette on .applies ≡ false → Lined palette s (outlineIf may how palette s)
   unfolding outlineIf outline drawn
   lined z =
-      case (asked how)
+      case (asked (how .outline))
       (λ y. case (hasRing on)
-      (λ r. let c = lineColour palette how in
-      let k = made-entered palette c (choice fixed palette c) few (made fixed palette c (an-entry z y r)) in
+      (λ r. let c = lineColour palette (how .outline) in
+      let k = made-entered palette c (choice may fixed palette c) few (made may fixed palette c (an-entry z y r)) in
       rw (y, r) (record {
         few = k .few;
         full = k .full;
-        named = λ a. inked-named on (named-more (k .more) (canvas-named s a _)) (chosenIndex palette (choice fixed palette c)) (k .below);
+        named = λ a. inked-named on (named-more (k .more) (canvas-named s a _)) (chosenIndex palette (choice may fixed palette c)) (k .below);
       }))
       (λ r. rw (y, r) (record { few = few; full = refl; named = λ a. canvas-named s a _ })))
       (λ y. rw y (record { few = few; full = refl; named = λ a. a }))

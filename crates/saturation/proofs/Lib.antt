@@ -1,2 +1,3 @@
-pub mod Reach
 pub mod Tones
+pub mod Reach
+pub mod Rows

@@ -1,12 +1,10 @@
--- A double that is not far from 0 is in range, and stays so when it is multiplied by one that is not far from 0 either; the loop that looks for one that is far. Assumes nothing.
-use Prim.Native.Nat.{ℕ, _+_, _-_, _*_, _%_, _^_, _≤_, _<_}
+-- A double that is near 0 stays in range when it is multiplied by one that is near 0 too. Assumes nothing.
+use Prim.Native.Nat.{ℕ, _+_, _*_, _%_, _^_, _≤_, _<_}
 use mathlib.Core.Path.{_≡_, refl, sym, ap, _∙_}
 use mathlib.Core.Logic.{⊎-elim}
 use mathlib.Core.Bool.{Bool, true, false, not, _&&_, _||_, cond, false≢true}
 use mathlib.Core.List.{List}
 use native.Mathlib.Nat.{le-refl, le-trans, le-of-eq, mul-le-mul, mul-le-mul-right, mul-mul-mul-comm, mul-one, mul-pos, add-comm}
-use native.Mathlib.Decide.{decLt}
-use native.Mathlib.Numerals.{add-one}
 use native.Mathlib.Omega.{arith}
 use borrow.Author.Tests.{not-false, ltb-false, lt-ltb}
 use lib.Dec.{eqb, ltb}
@@ -16,12 +14,14 @@ use lib.Ieee.{Float, nan, inf, fin, unlike, round, mul, neg, le, lt, eq, up, dow
 use lib.Ieee.Fits.{down-pos}
 use Rattle.base.specs.Places.{any}
 use Rattle.base.specs.Doubles.{_⊗_, decimal}
-use Rattle.base.proofs.Counting.{case, clash, both, left, right, either, or-left, or-right, not-true, same-test, yes-eqb, any-yes, yes-any, any-no}
+use Rattle.base.proofs.Counting.{case, clash, both, left, right, either, or-left, not-true, yes-eqb, any-yes, any-no}
 use Rattle.color.specs.Lab.{within}
 use Rattle.color.proofs.Range.{Sized, not-above, round-size}
 use Rattle.rules.specs.Palette.{paletteOf, outOfRange, saturate}
-use Rattle.saturation.specs.Near.{near, allNear, surelyInRange}
-use Rattle.saturation.proofs.Tones.{part, vivid, vivid-any}
+use Rattle.refusals.specs.Near.{near, allNear}
+use Rattle.refusals.proofs.Thirds.{out-of-range}
+use Rattle.saturation.specs.Near.{surelyInRange}
+use Rattle.saturation.proofs.Tones.{part, tooFar, tooFar-any}
 
 -- a double that is near a * 2 ^ j is finite and of that size
 near-sized : (a j : ℕ) (x : Float) → near (fin false a (pos j)) x ≡ true → Sized (a * 2 ^ j) x
@@ -94,84 +94,22 @@ module _ (a j b i : ℕ) (l : a * 2 ^ j ≤ 1024) (N : a * 2 ^ j * (b * 2 ^ i) �
   kept : (p : ℕ) → p < 3 * k → within (getD lab p nan) ≡ true
   kept p h = sized-within (getD lab p nan) (wider (a * 2 ^ j) (getD lab p nan) l (held p h))
 
-  -- so no double is out of range, before or after
-  before : outOfRange (paletteOf lab k) ≡ false
-  unfolding outOfRange
-  before = none (3 * k) _ (λ p h. ap not (kept p h))
-
-  module _ (beta : Float) (small : near (fin false b (pos i)) beta ≡ true) where
-    after : outOfRange (saturate beta (paletteOf lab k)) ≡ false
-    unfolding vivid part
-    after = vivid-any lab beta k ∙ none (3 * k) (vivid lab beta) (λ p h. ap not (toned p h (eqb (p % 3) 0)))
-      where
-        toned : (p : ℕ) → p < 3 * k → (c : Bool) → within (cond c (getD lab p nan) (getD lab p nan ⊗ beta)) ≡ true
-        toned p h true = kept p h
-        toned p h false = sized-within (getD lab p nan ⊗ beta) (product (a * 2 ^ j) (b * 2 ^ i) (getD lab p nan) beta N (held p h) (near-sized b i beta small))
-
-    in-range : (outOfRange (paletteOf lab k) ≡ false) × (outOfRange (saturate beta (paletteOf lab k)) ≡ false)
-    in-range = (before, after)
+  -- so none is out of range when it is multiplied
+  in-range : (beta : Float) → near (fin false b (pos i)) beta ≡ true → outOfRange (saturate beta (paletteOf lab k)) ≡ false
+  unfolding tooFar part
+  in-range beta small = tooFar-any lab beta k ∙ none (3 * k) (tooFar lab beta) (λ p h. ap not (toned p h (eqb (p % 3) 0)))
+    where
+      toned : (p : ℕ) → p < 3 * k → (c : Bool) → within (cond c (getD lab p nan) (getD lab p nan ⊗ beta)) ≡ true
+      toned p h true = kept p h
+      toned p h false = sized-within (getD lab p nan ⊗ beta) (product (a * 2 ^ j) (b * 2 ^ i) (getD lab p nan) beta N (held p h) (near-sized b i beta small))
 
 -- 1 times 1024 and 4 times 256 are 1024
-pub surely : (beta : Float) (lab : List Float) (k : ℕ) → surelyInRange beta (paletteOf lab k) ≡ true
-    → (outOfRange (paletteOf lab k) ≡ false) × (outOfRange (saturate beta (paletteOf lab k)) ≡ false)
+pub surely : (beta : Float) (lab : List Float) (k : ℕ) → outOfRange (paletteOf lab k) ≡ false → surelyInRange beta (paletteOf lab k) ≡ true → outOfRange (saturate beta (paletteOf lab k)) ≡ false
 unfolding surelyInRange decimal round
-surely beta lab k e =
-    case (near (fin false 1 (pos 0)) beta)
-    (λ y. in-range 1 10 1 0 (le-refl 1024) (le-refl 1024) lab k (rw y at e) beta y)
-    (λ z. let f = rw z at e in
+surely beta lab k ranged e =
+    let one = near (fin false 1 (pos 0)) beta in
     let four = near (fin false 1 (pos 2)) beta in
     let all = allNear (fin false 1 (pos 8)) (paletteOf lab k) in
-    in-range 1 8 1 2 (omega arith) (le-refl 1024) lab k (right four all f) beta (left four all f))
-
--- ---- the loop that walks the three thirds of a palette
-
-module _ (reach : Float) (lab : List Float) (k : ℕ) where
-  -- the double p is far
-  abbrev far : ℕ → Bool
-  far p = not (near reach (getD lab p nan))
-
-  -- the double p of one of the thirds is far
-  unfoldable pub farThird : ℕ → Bool
-  farThird p = far (2 * k + p) || (far (k + p) || far p)
-
-  pub thirds-start : true ≡ not (any 0 farThird)
-  unfolding any
-  thirds-start = refl
-
-  pub thirds-step : (n : ℕ) {old a b c : Bool} → old ≡ not (any n farThird)
-      → a ≡ near reach (getD lab n nan) → b ≡ near reach (getD lab (k + n) nan) → c ≡ near reach (getD lab (2 * k + n) nan)
-      → (c && (b && (a && old))) ≡ not (any (n + 1) farThird)
-  unfolding any farThird
-  thirds-step n {a} {b} {c} e ea eb ec = rw (add-one, e, sym ea, sym eb, sym ec) (go a b c (any n farThird))
-    where
-      go : (a b c o : Bool) → (c && (b && (a && not o))) ≡ not ((not c || (not b || not a)) || o)
-      go a b false o = refl
-      go a false true o = refl
-      go false true true o = refl
-      go true true true o = refl
-
-  -- a far double of a third is one of the palette, and back
-  there : (p : ℕ) → p < k → farThird p ≡ true → any (3 * k) far ≡ true
-  unfolding farThird
-  there p h y =
-      ⊎-elim (yes-any (3 * k) far (2 * k + p) (omega arith))
-      (λ z. ⊎-elim (yes-any (3 * k) far (k + p) (omega arith)) (yes-any (3 * k) far p (omega arith)) (either _ _ z))
-      (either _ _ y)
-
-  back : (p : ℕ) → p < 3 * k → far p ≡ true → Dec (p < k) → Dec (p < 2 * k) → any k farThird ≡ true
-  unfolding farThird
-  back p h y (yes x) d = yes-any k farThird p x (or-right (far (2 * k + p)) (or-right (far (k + p)) y))
-  back p h y (no x) (yes z) =
-      let q : far (k + (p - k)) ≡ true = ap far (omega arith) ∙ y in
-      yes-any k farThird (p - k) (omega arith) (or-right (far (2 * k + (p - k))) (or-left (far (p - k)) q))
-  back p h y (no x) (no z) =
-      let q : far (2 * k + (p - 2 * k)) ≡ true = ap far (omega arith) ∙ y in
-      yes-any k farThird (p - 2 * k) (omega arith) (or-left _ q)
-
-  pub thirds-end : {r : Bool} → r ≡ not (any k farThird) → r ≡ allNear reach (paletteOf lab k)
-  unfolding allNear
-  thirds-end e =
-      e
-      ∙ ap not
-      (same-test (λ y. let w = any-yes k farThird y in there (w .0) (w .1) (w .2))
-      (λ y. let w = any-yes (3 * k) far y in back (w .0) (w .1) (w .2) (decLt (w .0) k) (decLt (w .0) (2 * k))))
+    ⊎-elim (in-range 1 10 1 0 (le-refl 1024) (le-refl 1024) lab k (not-false _ (out-of-range (paletteOf lab k) ∙ ranged)) beta)
+    (λ y. in-range 1 8 1 2 (omega arith) (le-refl 1024) lab k (right four all y) beta (left four all y))
+    (either one (four && all) e)

@@ -1,17 +1,14 @@
--- Laws of saturation: the loop that writes it, the loop that tests it, and what it leaves of a palette. Assumes nothing.
+-- Laws of saturation: the loop that writes it, and the loop that tests it. Assumes nothing.
 use Prim.Native.Nat.{ℕ, _+_, _*_, _%_, _<_}
 use mathlib.Core.Path.{_≡_, refl, sym, ap, _∙_}
 use mathlib.Core.Bool.{Bool, not, _||_, cond}
 use mathlib.Core.List.{List}
-use mathlib.Core.Option.{none, some}
 use native.Mathlib.Nat.{le-refl}
 use native.Mathlib.Decide.{decLt}
 use native.Mathlib.Omega.{arith}
 use lib.Dec.{eqb}
 use lib.Ieee.{Float, nan}
 use lib.ListN.{length, getD, set, length-set}
-use Rattle.base.specs.declared.Filling.{Filling}
-use Rattle.base.specs.Refusals.{filling}
 use Rattle.base.specs.Places.{any}
 use Rattle.base.specs.Outputs.{filled}
 use Rattle.base.proofs.Counting.{any-same}
@@ -19,10 +16,8 @@ use Rattle.base.proofs.Fills.{filled-at, filled-past, filled-is, filled-none, f
 use Rattle.base.specs.Doubles.{_⊗_}
 use Rattle.color.specs.declared.Lab.{Lab}
 use Rattle.color.specs.Lab.{entry, within}
-use Rattle.rules.specs.Palette.{Palette, paletteOf, outOfRange, saturate}
-use Rattle.rules.specs.Entries.{saturationRefusal, saturationAnswer, saturationPalette}
-use Rattle.checks.proofs.Scans.{some-more}
-use Rattle.checks.proofs.Answers.{refused, granted}
+use Rattle.rules.specs.Palette.{paletteOf, outOfRange, saturate}
+use Rattle.refusals.proofs.Scans.{some-more}
 
 -- the double i of a saturated palette
 unfoldable pub part : List Float → Float → ℕ → Float
@@ -92,33 +87,22 @@ module _ (old : List Float) (beta : Float) where
 -- ---- testing
 
 -- the double i of a saturated palette is out of range
-unfoldable pub vivid : List Float → Float → ℕ → Bool
-vivid lab beta i = not (within (part lab beta i))
+unfoldable pub tooFar : List Float → Float → ℕ → Bool
+tooFar lab beta i = not (within (part lab beta i))
 
 module _ (lab : List Float) (beta : Float) where
   -- an entry more
-  pub vivid-more : (i : ℕ) {c : Lab} {old l a b : Bool} → old ≡ any (3 * i) (vivid lab beta) → c ≡ entry lab i
-      → l ≡ within (c .l) → a ≡ within (c .a ⊗ beta) → b ≡ within (c .b ⊗ beta) → (not b || (not a || (not l || old))) ≡ any (3 * (i + 1)) (vivid lab beta)
-  unfolding vivid entry
-  vivid-more i e f el ea eb =
-      let one = some-more (3 * i) (vivid lab beta) e (ap not (el ∙ ap within (ap (λ (x : Lab). x .l) f ∙ sym (part-l lab beta i)))) in
-      let two = some-more (3 * i + 1) (vivid lab beta) one (ap not (ea ∙ ap within (ap (λ (x : Lab). x .a ⊗ beta) f ∙ sym (part-a lab beta i)))) in
+  pub tooFar-more : (i : ℕ) {c : Lab} {old l a b : Bool} → old ≡ any (3 * i) (tooFar lab beta) → c ≡ entry lab i
+      → l ≡ within (c .l) → a ≡ within (c .a ⊗ beta) → b ≡ within (c .b ⊗ beta) → (not b || (not a || (not l || old))) ≡ any (3 * (i + 1)) (tooFar lab beta)
+  unfolding tooFar entry
+  tooFar-more i e f el ea eb =
+      let one = some-more (3 * i) (tooFar lab beta) e (ap not (el ∙ ap within (ap (λ (x : Lab). x .l) f ∙ sym (part-l lab beta i)))) in
+      let two = some-more (3 * i + 1) (tooFar lab beta) one (ap not (ea ∙ ap within (ap (λ (x : Lab). x .a ⊗ beta) f ∙ sym (part-a lab beta i)))) in
       let p : 3 * i + 1 + 1 ≡ 3 * i + 2 = omega arith in
-      let three = some-more (3 * i + 2) (vivid lab beta) (rw p at two) (ap not (eb ∙ ap within (ap (λ (x : Lab). x .b ⊗ beta) f ∙ sym (part-b lab beta i)))) in
+      let three = some-more (3 * i + 2) (tooFar lab beta) (rw p at two) (ap not (eb ∙ ap within (ap (λ (x : Lab). x .b ⊗ beta) f ∙ sym (part-b lab beta i)))) in
       let q : 3 * i + 2 + 1 ≡ 3 * (i + 1) = omega arith in
       rw q at three
 
-  pub vivid-any : (k : ℕ) → outOfRange (saturate beta (paletteOf lab k)) ≡ any (3 * k) (vivid lab beta)
-  unfolding outOfRange saturate vivid part
-  vivid-any k = any-same (3 * k) _ _ (λ p h. ap (λ (x : Float). not (within x)) (filled-at (3 * k) (part lab beta) lab nan p h))
-
--- ---- the entry
-
-module _ (palette : Palette) (beta : Float) where
-  pub refuses : (n : ℕ) → saturationRefusal palette beta ≡ some n → (Filling.Refused n ≡ saturationAnswer palette beta) × (palette .lab ≡ saturationPalette palette beta)
-  unfolding saturationAnswer saturationPalette filling
-  refuses n e = (refused _ _ n e, refused _ _ n e)
-
-  pub saturates : saturationRefusal palette beta ≡ none → (Filling.Done ≡ saturationAnswer palette beta) × (saturate beta palette .lab ≡ saturationPalette palette beta)
-  unfolding saturationAnswer saturationPalette filling
-  saturates e = (granted _ _ e, granted _ _ e)
+  pub tooFar-any : (k : ℕ) → outOfRange (saturate beta (paletteOf lab k)) ≡ any (3 * k) (tooFar lab beta)
+  unfolding outOfRange saturate tooFar part
+  tooFar-any k = any-same (3 * k) _ _ (λ p h. ap (λ (x : Float). not (within x)) (filled-at (3 * k) (part lab beta) lab nan p h))

@@ -1,46 +1,30 @@
 // Saturation: a and b of every entry of a palette, multiplied by beta.
-use checks::between;
 use color::cielab::entry;
 use color::cielab::within;
+use refusals::all_near;
+use refusals::between;
 ghost use mathlib.Core.Path.{_≡_};
+ghost use mathlib.Core.Bool.{false};
 ghost use Prim.Native.Nat.{_*_, _<_, _≤_};
 ghost use lib.Ieee.{nan};
 ghost use lib.ListN.{length, getD, set};
 ghost use Rattle.base.specs.Doubles.{_⊗_};
 ghost use Rattle.rules.specs.Palette.{paletteOf, saturate, outOfRange};
-ghost use Rattle.saturation.specs.Near.{allNear, surelyInRange};
+ghost use Rattle.saturation.specs.Near.{surelyInRange};
 
-// Whether every double in use is from -reach to reach: each third of them is walked at once.
-fn all_near(palette: &[f64], k: usize, reach: f64) -> bool
-    requires { ⌜ (3 * k ≤ length (now palette)) × (k ≤ 256) ⌝ }
-    ensures { λ r. ⌜ r ≡ allNear reach (paletteOf (now (palette .entry)) k) ⌝ }
-{
-    let least = -reach;
-    let mut near = true;
-    for i in 0..k {
-        near = between(least, reach, palette[i]) & near;
-        near = between(least, reach, palette[k + i]) & near;
-        near = between(least, reach, palette[2 * k + i]) & near;
-    }
-    near
-}
-
-// Whether beta and every double in use are so near 0 that surely no double is out of range and no product can be.
-pub fn surely_in_range(palette: &[f64], k: usize, beta: f64) -> bool
+// Whether beta and every double in use are so near 0 that no product of a palette in range can be out of range.
+fn surely_in_range(palette: &[f64], k: usize, beta: f64) -> bool
     requires { ⌜ (3 * k ≤ length (now palette)) × (k ≤ 256) ⌝ }
     ensures { λ r. ⌜ r ≡ surelyInRange beta (paletteOf (now (palette .entry)) k) ⌝ }
 {
     if between(-1.0, 1.0, beta) {
-        return all_near(palette, k, 1024.0);
+        return true;
     }
-    if between(-4.0, 4.0, beta) {
-        return all_near(palette, k, 256.0);
-    }
-    false
+    between(-4.0, 4.0, beta) && all_near(palette, k, 256.0)
 }
 
 // Whether a multiplied a or b is NaN or beyond 1024 either way, by every product.
-pub fn any_vivid(palette: &[f64], k: usize, beta: f64) -> bool
+fn any_scaled_too_far(palette: &[f64], k: usize, beta: f64) -> bool
     requires { ⌜ (3 * k ≤ length (now palette)) × (k ≤ 256) ⌝ }
     ensures { λ r. ⌜ r ≡ outOfRange (saturate beta (paletteOf (now (palette .entry)) k)) ⌝ }
 {
@@ -54,15 +38,15 @@ pub fn any_vivid(palette: &[f64], k: usize, beta: f64) -> bool
     bad
 }
 
-// Whether a multiplied a or b is NaN or beyond 1024 either way.
-pub fn too_vivid(palette: &[f64], k: usize, beta: f64) -> bool
-    requires { ⌜ (3 * k ≤ length (now palette)) × (k ≤ 256) ⌝ }
+// Whether a multiplied a or b of a palette in range is NaN or beyond 1024 either way.
+pub fn scaled_too_far(palette: &[f64], k: usize, beta: f64) -> bool
+    requires { ⌜ (3 * k ≤ length (now palette)) × (k ≤ 256) × (outOfRange (paletteOf (now palette) k) ≡ false) ⌝ }
     ensures { λ r. ⌜ r ≡ outOfRange (saturate beta (paletteOf (now (palette .entry)) k)) ⌝ }
 {
     if surely_in_range(palette, k, beta) {
         return false;
     }
-    any_vivid(palette, k, beta)
+    any_scaled_too_far(palette, k, beta)
 }
 
 // Multiplies the double at a place by beta.

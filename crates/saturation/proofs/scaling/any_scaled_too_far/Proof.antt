@@ -1,15 +1,15 @@
--- `saturation::scaling::any_vivid` meets its contract. The loop: bad tells whether an entry before i is carried out of range. Assumes nothing.
+-- `saturation::scaling::any_scaled_too_far` meets its contract. The loop: bad tells whether an entry before i is carried out of range. Assumes nothing.
 use Prim.Native.Nat.{_*_, _-_, _≤_}
 use mathlib.Core.Path.{_≡_, sym, _∙_}
 use native.Mathlib.Omega.{arith}
 use Rattle.base.specs.Places.{any}
-use Rattle.checks.proofs.Scans.{none-yet}
-use Rattle.saturation.proofs.Tones.{vivid, vivid-more, vivid-any}
-use Rattle.saturation.proofs.scaling.any_vivid.Statement.{statement}
-use Rattle.saturation.proofs.scaling.any_vivid.Tie as tie
+use Rattle.refusals.proofs.Scans.{none-yet}
+use Rattle.saturation.proofs.Tones.{tooFar, tooFar-more, tooFar-any}
+use Rattle.saturation.proofs.scaling.any_scaled_too_far.Statement.{statement}
+use Rattle.saturation.proofs.scaling.any_scaled_too_far.Tie as tie
 
 abbrev Inv-loop : tie.InvT-loop
-Inv-loop palette k beta bad₀ i₀ bad i = (i ≤ k) × (bad ≡ any (3 * i) (vivid palette beta))
+Inv-loop palette k beta bad₀ i₀ bad i = (i ≤ k) × (bad ≡ any (3 * i) (tooFar palette beta))
 
 abbrev μ-loop : tie.MeasureT-loop
 μ-loop palette k beta bad₀ i₀ bad i = k - i
@@ -38,16 +38,16 @@ loop-less c = omega arith
 loop-again : tie.Need-loop-again Inv-loop μ-loop
 loop-again c =
     let w = c .before .before .before .before in
-    (omega arith, vivid-more _ _ _ (w .before .before .before .loop .inv .1) (w .before .entry .ensures) (w .within .ensures) (c .before .before .within2 .ensures) (c .within3 .ensures))
+    (omega arith, tooFar-more _ _ _ (w .before .before .before .loop .inv .1) (w .before .entry .ensures) (w .within .ensures) (c .before .before .within2 .ensures) (c .within3 .ensures))
 
 returns : tie.Need-returns Inv-loop μ-loop
 returns c =
     let k = c .before .before .before .args .k in
     let e : c .before .loop .i ≡ k = omega arith in
-    (rw e at (c .before .loop .inv .1)) ∙ sym (vivid-any _ _ k)
+    (rw e at (c .before .loop .inv .1)) ∙ sym (tooFar-any _ _ k)
 
-pub any-vivid-spec : {M : Type 1} → statement M
-any-vivid-spec =
+pub any-scaled-too-far-spec : {M : Type 1} → statement M
+any-scaled-too-far-spec =
     tie.close
     (tie.spec
     Inv-loop
