@@ -9,19 +9,19 @@ use lib.Dec.{leb, eqb}
 use lib.ListN.{length, getD}
 use borrow.Author.Tests.{le-leb, lt-leb, eq-eqb, ne-eqb, eqb-false}
 use Rattle.base.proofs.Counting.{case, both, left, right, leb-yes, not-true, any-no}
-use Rattle.hex.specs.Hex.{between, space, digit, allDigits}
+use Rattle.hex.specs.Hex.{inRange, space, digit, allDigits}
 
-in-range : (a b c : ℕ) → a ≤ c → c ≤ b → between a b c ≡ true
-unfolding between
+in-range : (a b c : ℕ) → a ≤ c → c ≤ b → inRange a b c ≡ true
+unfolding inRange
 in-range a b c p q = both (le-leb a c p) (le-leb c b q)
 
-off-range : (a b c : ℕ) → (c < a) ⊎ (b < c) → between a b c ≡ false
-unfolding between
+off-range : (a b c : ℕ) → (c < a) ⊎ (b < c) → inRange a b c ≡ false
+unfolding inRange
 off-range a b c (inl p) = rw (lt-leb a c p)
 off-range a b c (inr q) = case (leb a c) (λ y. rw (y, lt-leb c b q)) (λ z. rw z)
 
-from-range : (a b c : ℕ) → between a b c ≡ true → (a ≤ c) × (c ≤ b)
-unfolding between
+from-range : (a b c : ℕ) → inRange a b c ≡ true → (a ≤ c) × (c ≤ b)
+unfolding inRange
 from-range a b c y = (leb-yes {m = a} {n = c} (left (leb a c) (leb c b) y), leb-yes {m = c} {n = b} (right (leb a c) (leb c b) y))
 
 -- ---- white space
@@ -59,9 +59,9 @@ digit-no {c} p q s = rw (off-range 48 57 c p, off-range 97 102 c s, off-range 65
 digit-le : (c : ℕ) → digit c ≤ 16
 unfolding digit
 digit-le c =
-    case (between 48 57 c) (λ y. let h = from-range 48 57 c y in rw y (omega arith))
-    (λ x. case (between 97 102 c) (λ y. let h = from-range 97 102 c y in rw (x, y) (omega arith))
-    (λ z. case (between 65 70 c) (λ y. let h = from-range 65 70 c y in rw (x, z, y) (omega arith)) (λ w. rw (x, z, w) (omega arith))))
+    case (inRange 48 57 c) (λ y. let h = from-range 48 57 c y in rw y (omega arith))
+    (λ x. case (inRange 97 102 c) (λ y. let h = from-range 97 102 c y in rw (x, y) (omega arith))
+    (λ z. case (inRange 65 70 c) (λ y. let h = from-range 65 70 c y in rw (x, z, y) (omega arith)) (λ w. rw (x, z, w) (omega arith))))
 
 pub digit-at : (l : List ℕ) (i : ℕ) → allDigits l ≡ true → i < length l → digit (getD l i 0) < 16
 unfolding allDigits

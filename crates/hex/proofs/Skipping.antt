@@ -7,29 +7,29 @@ use native.Mathlib.Numerals.{add-one}
 use native.Mathlib.Omega.{arith}
 use lib.ListN.{length, getD, take, drop, length-drop, drop-of-length-le}
 use lib.Seq.{take-suc, drop-cons, take-all, take-length}
-use Rattle.hex.specs.Hex.{skip}
+use Rattle.hex.specs.Hex.{dropWhile}
 
 -- the first i elements are skipped
 pub record Skipped (t : ℕ → Bool) (l : List ℕ) (i : ℕ) : Type 0 where
   pub inside : i ≤ length l
-  pub rest : skip t (drop i l) ≡ skip t l
+  pub rest : dropWhile t (drop i l) ≡ dropWhile t l
 
 -- the elements from e on are skipped
-pub record Trimmed (t : ℕ → Bool) (l : List ℕ) (e : ℕ) : Type 0 where
+pub record Stripped (t : ℕ → Bool) (l : List ℕ) (e : ℕ) : Type 0 where
   pub inside : e ≤ length l
-  pub rest : skip t (reverse (take e l)) ≡ skip t (reverse l)
+  pub rest : dropWhile t (reverse (take e l)) ≡ dropWhile t (reverse l)
 
-skip-pass : (t : ℕ → Bool) (x : ℕ) (xs : List ℕ) → t x ≡ true → skip t (x ∷ xs) ≡ skip t xs
-unfolding skip
-skip-pass t x xs y = rw y
+while-pass : (t : ℕ → Bool) (x : ℕ) (xs : List ℕ) → t x ≡ true → dropWhile t (x ∷ xs) ≡ dropWhile t xs
+unfolding dropWhile
+while-pass t x xs y = rw y
 
-skip-stop : (t : ℕ → Bool) (x : ℕ) (xs : List ℕ) → t x ≡ false → skip t (x ∷ xs) ≡ x ∷ xs
-unfolding skip
-skip-stop t x xs z = rw z
+while-stop : (t : ℕ → Bool) (x : ℕ) (xs : List ℕ) → t x ≡ false → dropWhile t (x ∷ xs) ≡ x ∷ xs
+unfolding dropWhile
+while-stop t x xs z = rw z
 
-skip-nil : (t : ℕ → Bool) → skip t [] ≡ []
-unfolding skip
-skip-nil t = refl
+while-nil : (t : ℕ → Bool) → dropWhile t [] ≡ []
+unfolding dropWhile
+while-nil t = refl
 
 -- one element more stands first in the reversed list
 turned : (l : List ℕ) (e : ℕ) → 0 < e → e ≤ length l → reverse (take e l) ≡ getD l (e - 1) 0 ∷ reverse (take (e - 1) l)
@@ -51,39 +51,39 @@ module _ {t : ℕ → Bool} where
   skipped-more {l} {i} s h y =
       record {
         inside = omega arith;
-        rest = rw add-one (sym (skip-pass t (getD l i 0) (drop (suc i) l) y) ∙ ap (skip t) (sym (drop-cons l i 0 h)) ∙ s .rest);
+        rest = rw add-one (sym (while-pass t (getD l i 0) (drop (suc i) l) y) ∙ ap (dropWhile t) (sym (drop-cons l i 0 h)) ∙ s .rest);
       }
 
-  pub skipped-all : {l : List ℕ} {i : ℕ} → Skipped t l i → length l ≤ i → take (length l - i) (drop i l) ≡ skip t l
+  pub skipped-all : {l : List ℕ} {i : ℕ} → Skipped t l i → length l ≤ i → take (length l - i) (drop i l) ≡ dropWhile t l
   skipped-all {l} {i} s h =
-      let e = drop-of-length-le l h in whole l i ∙ (e ∙ sym (skip-nil t) ∙ ap (skip t) (sym e) ∙ s .rest)
+      let e = drop-of-length-le l h in whole l i ∙ (e ∙ sym (while-nil t) ∙ ap (dropWhile t) (sym e) ∙ s .rest)
 
-  pub skipped-to : {l : List ℕ} {i : ℕ} → Skipped t l i → i < length l → t (getD l i 0) ≡ false → take (length l - i) (drop i l) ≡ skip t l
+  pub skipped-to : {l : List ℕ} {i : ℕ} → Skipped t l i → i < length l → t (getD l i 0) ≡ false → take (length l - i) (drop i l) ≡ dropWhile t l
   skipped-to {l} {i} s h z =
       let e = drop-cons l i 0 h in
-      whole l i ∙ (e ∙ sym (skip-stop t (getD l i 0) (drop (suc i) l) z) ∙ ap (skip t) (sym e) ∙ s .rest)
+      whole l i ∙ (e ∙ sym (while-stop t (getD l i 0) (drop (suc i) l) z) ∙ ap (dropWhile t) (sym e) ∙ s .rest)
 
-  pub trimmed-none : (l : List ℕ) → Trimmed t l (length l)
-  trimmed-none l = record { inside = omega arith; rest = rw (take-length l) }
+  pub stripped-none : (l : List ℕ) → Stripped t l (length l)
+  stripped-none l = record { inside = omega arith; rest = rw (take-length l) }
 
-  pub trimmed-more : {l : List ℕ} {e : ℕ} → Trimmed t l e → 0 < e → t (getD l (e - 1) 0) ≡ true → Trimmed t l (e - 1)
-  trimmed-more {l} {e} s p y =
+  pub stripped-more : {l : List ℕ} {e : ℕ} → Stripped t l e → 0 < e → t (getD l (e - 1) 0) ≡ true → Stripped t l (e - 1)
+  stripped-more {l} {e} s p y =
       record {
         inside = omega arith;
         rest =
-            sym (skip-pass t (getD l (e - 1) 0) (reverse (take (e - 1) l)) y)
-            ∙ ap (skip t) (sym (turned l e p (s .inside)))
+            sym (while-pass t (getD l (e - 1) 0) (reverse (take (e - 1) l)) y)
+            ∙ ap (dropWhile t) (sym (turned l e p (s .inside)))
             ∙ s .rest;
       }
 
-  pub trimmed-all : {l : List ℕ} {e : ℕ} → Trimmed t l e → e ≤ 0 → take e l ≡ reverse (skip t (reverse l))
-  trimmed-all {l} {e} s h =
+  pub stripped-all : {l : List ℕ} {e : ℕ} → Stripped t l e → e ≤ 0 → take e l ≡ reverse (dropWhile t (reverse l))
+  stripped-all {l} {e} s h =
       let q : e ≡ 0 = omega arith in
       let n : take e l ≡ [] = ap (λ (k : ℕ). take k l) q in
-      n ∙ ap reverse (sym (skip-nil t) ∙ ap (λ (x : List ℕ). skip t (reverse x)) (sym n) ∙ s .rest)
+      n ∙ ap reverse (sym (while-nil t) ∙ ap (λ (x : List ℕ). dropWhile t (reverse x)) (sym n) ∙ s .rest)
 
-  pub trimmed-to : {l : List ℕ} {e : ℕ} → Trimmed t l e → 0 < e → t (getD l (e - 1) 0) ≡ false → take e l ≡ reverse (skip t (reverse l))
-  trimmed-to {l} {e} s p z =
+  pub stripped-to : {l : List ℕ} {e : ℕ} → Stripped t l e → 0 < e → t (getD l (e - 1) 0) ≡ false → take e l ≡ reverse (dropWhile t (reverse l))
+  stripped-to {l} {e} s p z =
       let n = turned l e p (s .inside) in
       sym (reverse-reverse (take e l))
-      ∙ ap reverse (n ∙ sym (skip-stop t (getD l (e - 1) 0) (reverse (take (e - 1) l)) z) ∙ ap (skip t) (sym n) ∙ s .rest)
+      ∙ ap reverse (n ∙ sym (while-stop t (getD l (e - 1) 0) (reverse (take (e - 1) l)) z) ∙ ap (dropWhile t) (sym n) ∙ s .rest)

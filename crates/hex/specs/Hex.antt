@@ -9,32 +9,32 @@ use Rattle.hex.specs.declared.Hex.{Hex}
 use Rattle.hex.specs.declared.Hex.the-variants.{Colour, Refused}
 
 -- a to b, both among them
-unfoldable pub between : ℕ → ℕ → ℕ → Bool
-between a b c = leb a c && leb c b
+unfoldable pub inRange : ℕ → ℕ → ℕ → Bool
+inRange a b c = leb a c && leb c b
 
 -- white space: one of the codes 9 to 13, or a space
 unfoldable pub space : ℕ → Bool
-space c = between 9 13 c || eqb c 32
+space c = inRange 9 13 c || eqb c 32
 
 -- `#`
 unfoldable pub mark : ℕ → Bool
 mark c = eqb c 35
 
 -- what is left once the leading elements that pass the test are dropped
-unfoldable pub skip : (ℕ → Bool) → List ℕ → List ℕ
-skip t [] = []
-skip t (c ∷ cs) = cond (t c) (skip t cs) (c ∷ cs)
+unfoldable pub dropWhile : (ℕ → Bool) → List ℕ → List ℕ
+dropWhile t [] = []
+dropWhile t (c ∷ cs) = cond (t c) (dropWhile t cs) (c ∷ cs)
 
 -- without the white space at both ends
-unfoldable pub trim : List ℕ → List ℕ
-trim text = reverse (skip space (reverse (skip space text)))
+unfoldable pub stripped : List ℕ → List ℕ
+stripped text = reverse (dropWhile space (reverse (dropWhile space text)))
 
 -- the value of a hex digit: 0 to 9, a to f or A to F; 16 for any other code
 unfoldable pub digit : ℕ → ℕ
 digit c =
-    cond (between 48 57 c) (c - 48)
-    (cond (between 97 102 c) (c - 97 + 10)
-    (cond (between 65 70 c) (c - 65 + 10) 16))
+    cond (inRange 48 57 c) (c - 48)
+    (cond (inRange 97 102 c) (c - 97 + 10)
+    (cond (inRange 65 70 c) (c - 65 + 10) 16))
 
 -- whether a text has hex digits alone
 unfoldable pub allDigits : List ℕ → Bool
@@ -51,4 +51,4 @@ sixDigits text =
 
 -- the colour that a text names, with white space at both ends and then leading `#` dropped
 unfoldable pub hexToRgb8 : List ℕ → Hex
-hexToRgb8 text = sixDigits (skip mark (trim text))
+hexToRgb8 text = sixDigits (dropWhile mark (stripped text))

@@ -4,7 +4,7 @@ ghost use mathlib.Core.Bool.{true};
 ghost use mathlib.Core.List.{reverse};
 ghost use Prim.Native.Nat.{_+_, _<_};
 ghost use lib.ListN.{length};
-ghost use Rattle.hex.specs.Hex.{space, mark, skip, digit, pair, allDigits, sixDigits, hexToRgb8};
+ghost use Rattle.hex.specs.Hex.{space, mark, dropWhile, digit, pair, allDigits, sixDigits, hexToRgb8};
 use color::Rgb8;
 
 // What a text is read as: a colour, or a refusal's number.
@@ -25,7 +25,7 @@ fn is_space(c: u8) -> bool
 
 // The text from its first byte that is no white space on.
 fn without_leading_space(text: &[u8]) -> &[u8]
-    ensures { λ r. ⌜ now r ≡ skip space (now (text .entry)) ⌝ }
+    ensures { λ r. ⌜ now r ≡ dropWhile space (now (text .entry)) ⌝ }
 {
     let mut i = 0;
     while i < text.len() && is_space(text[i]) {
@@ -36,7 +36,7 @@ fn without_leading_space(text: &[u8]) -> &[u8]
 
 // The text up to its last byte that is no white space.
 fn without_trailing_space(text: &[u8]) -> &[u8]
-    ensures { λ r. ⌜ now r ≡ reverse (skip space (reverse (now (text .entry)))) ⌝ }
+    ensures { λ r. ⌜ now r ≡ reverse (dropWhile space (reverse (now (text .entry)))) ⌝ }
 {
     let mut end = text.len();
     while end > 0 && is_space(text[end - 1]) {
@@ -47,7 +47,7 @@ fn without_trailing_space(text: &[u8]) -> &[u8]
 
 // The text from its first byte that is no `#` on.
 fn without_marks(text: &[u8]) -> &[u8]
-    ensures { λ r. ⌜ now r ≡ skip mark (now (text .entry)) ⌝ }
+    ensures { λ r. ⌜ now r ≡ dropWhile mark (now (text .entry)) ⌝ }
 {
     let mut i = 0;
     while i < text.len() && text[i] == b'#' {

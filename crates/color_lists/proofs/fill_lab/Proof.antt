@@ -21,8 +21,11 @@ loop-holds c = written-none _ _ _ (c .before .before .before .pre .1)
 byte-entry-requires : tie.Need-byte-entry-requires Inv-loop μ-loop
 byte-entry-requires c κs = omega arith
 
+abbrev start : tie.In-loop Inv-loop μ-loop → tie.Start Inv-loop μ-loop
+start c = c .before .before .before .before .before
+
 rgb8-to-lab-by-requires : tie.Need-rgb8-to-lab-by-requires Inv-loop μ-loop
-rgb8-to-lab-by-requires c κs = c .before .before .before .before .before .before .before .pre .0
+rgb8-to-lab-by-requires c κs = start (c .before .before) .pre .0
 
 put-lab-requires : tie.Need-put-lab-requires Inv-loop μ-loop
 put-lab-requires c κs = let e = written-length (c .before .before .before .before .loop .inv) in omega arith
@@ -35,8 +38,10 @@ loop-less c = omega arith
 
 loop-again : tie.Need-loop-again Inv-loop μ-loop
 loop-again c =
-    rw (c .before .before .put-lab .ensures)
-    (lab-written _ (c .before .before .before .before .before .before .before .loop .inv) (c .before .before .before .before .before .before .loop-test .taken) _ (c .before .before .before .rgb8-to-lab-by .ensures ∙ ap rgb8ToLab (c .before .before .before .before .byte-entry .ensures)))
+    let t = c .before .before in
+    let l = t .before .before .before .before in
+    rw (t .put-lab .ensures)
+    (lab-written _ (l .before .loop .inv) (l .loop-test .taken) _ (t .before .rgb8-to-lab-by .ensures ∙ ap rgb8ToLab (t .before .before .byte-entry .ensures)))
 
 same-length : tie.Need-same-length Inv-loop μ-loop
 same-length c = written-length (c .before .loop .inv)

@@ -21,8 +21,11 @@ loop-holds c = written-none _ _ _ (c .before .before .pre .1)
 entry-requires : tie.Need-entry-requires Inv-loop μ-loop
 entry-requires c κs = omega arith
 
+abbrev start : tie.In-loop Inv-loop μ-loop → tie.Start Inv-loop μ-loop
+start c = c .before .before .before .before
+
 nearest-requires : tie.Need-nearest-requires Inv-loop μ-loop
-nearest-requires c κs = c .before .before .before .before .before .pre .0
+nearest-requires c κs = start (c .before) .pre .0
 
 mul-t10 : tie.Need-mul-t10 Inv-loop μ-loop
 mul-t10 c = let e = written-length (c .before .before .before .loop .inv) in omega arith

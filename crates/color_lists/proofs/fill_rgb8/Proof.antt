@@ -21,8 +21,11 @@ loop-holds c = written-none _ _ _ (c .before .before .before .pre .1)
 entry-requires : tie.Need-entry-requires Inv-loop μ-loop
 entry-requires c κs = omega arith
 
+abbrev start : tie.In-loop Inv-loop μ-loop → tie.Start Inv-loop μ-loop
+start c = c .before .before .before .before .before
+
 lab-to-rgb8-by-requires : tie.Need-lab-to-rgb8-by-requires Inv-loop μ-loop
-lab-to-rgb8-by-requires c κs = c .before .before .before .before .before .before .before .pre .0
+lab-to-rgb8-by-requires c κs = start (c .before .before) .pre .0
 
 put-rgb8-requires : tie.Need-put-rgb8-requires Inv-loop μ-loop
 put-rgb8-requires c κs = let e = written-length (c .before .before .before .before .loop .inv) in omega arith
@@ -35,8 +38,10 @@ loop-less c = omega arith
 
 loop-again : tie.Need-loop-again Inv-loop μ-loop
 loop-again c =
-    rw (c .before .before .put-rgb8 .ensures)
-    (rgb8-written _ (c .before .before .before .before .before .before .before .loop .inv) (c .before .before .before .before .before .before .loop-test .taken) _ (c .before .before .before .lab-to-rgb8-by .ensures ∙ ap labToRgb8 (c .before .before .before .before .entry .ensures)))
+    let t = c .before .before in
+    let l = t .before .before .before .before in
+    rw (t .put-rgb8 .ensures)
+    (rgb8-written _ (l .before .loop .inv) (l .loop-test .taken) _ (t .before .lab-to-rgb8-by .ensures ∙ ap labToRgb8 (t .before .before .entry .ensures)))
 
 same-length : tie.Need-same-length Inv-loop μ-loop
 same-length c = written-length (c .before .loop .inv)

@@ -2,7 +2,7 @@
 use Prim.Native.Nat.{ℕ}
 use mathlib.Core.Path.{ap, _∙_}
 use mathlib.Core.List.{List, reverse}
-use Rattle.hex.specs.Hex.{space, mark, skip, trim, sixDigits, hexToRgb8}
+use Rattle.hex.specs.Hex.{space, mark, dropWhile, stripped, sixDigits, hexToRgb8}
 use Rattle.hex.proofs.hex_to_rgb8.Statement.{statement}
 use Rattle.hex.proofs.hex_to_rgb8.Tie as tie
 
@@ -19,12 +19,12 @@ six-digits-requires : tie.Need-six-digits-requires
 six-digits-requires c κs = tt
 
 returns : tie.Need-returns
-unfolding trim hexToRgb8
+unfolding stripped hexToRgb8
 returns c =
     c .six-digits .ensures
     ∙ ap sixDigits (c .before .without-marks .ensures
-    ∙ ap (skip mark) (c .before .before .without-trailing-space .ensures
-    ∙ ap (λ (l : List ℕ). reverse (skip space (reverse l))) (c .before .before .before .without-leading-space .ensures)))
+    ∙ ap (dropWhile mark) (c .before .before .without-trailing-space .ensures
+    ∙ ap (λ (l : List ℕ). reverse (dropWhile space (reverse l))) (c .before .before .before .without-leading-space .ensures)))
 
 pub hex-to-rgb8-spec : {M : Type 1} → statement M
 hex-to-rgb8-spec = tie.close (tie.spec without-leading-space-requires without-trailing-space-requires without-marks-requires six-digits-requires returns)
