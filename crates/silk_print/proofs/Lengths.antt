@@ -13,10 +13,11 @@ use Rattle.base.proofs.Counting.{case}
 use Rattle.color.specs.Lab.{entry, labToRgb8}
 use Rattle.color.specs.declared.Rgb8.{Rgb8}
 use Rattle.rules.specs.declared.Facts.{Facts}
+use Rattle.rules.specs.Entries.{SizesInRange}
 use Rattle.rules.specs.declared.LineIndex.{LineIndex}
 use Rattle.rules.specs.declared.LineIndex as line-index
-use Rattle.cursor.specs.Reader.{codes, newline}
-use Rattle.silk_print.specs.Print.{numeral, signedNumeral, hexByte, hexColour, each, numberText, indexText, clippedText, sizesText, headText, colourText, cellText, cellsText, rowText, rowsText, coloursText, resultText, roomFor, Sized}
+use Rattle.silk_reader.specs.Reader.{codes, newline}
+use Rattle.silk_print.specs.Print.{numeral, signedNumeral, hexByte, hexColour, each, numberText, indexText, clippedText, sizesText, headText, colourText, cellText, cellsText, rowText, rowsText, coloursText, resultText, roomFor}
 use Rattle.silk_print.specs.Claims.{RoomEnough, SheetRoom}
 use Rattle.silk_print.proofs.Digits.{numeral-short}
 
@@ -49,7 +50,7 @@ unfolding clippedText codes
 clipped-text true = omega arith
 clipped-text false = omega arith
 
-head-text : (facts : Facts) → Sized facts → ((i : ℕ) → facts .«outline_index» ≡ line-index.the-variants.Entry i → i < 10 ^ 10) → length (headText facts) ≤ 97
+head-text : (facts : Facts) → SizesInRange facts → ((i : ℕ) → facts .«outline_index» ≡ line-index.the-variants.Entry i → i < 10 ^ 10) → length (headText facts) ≤ 97
 unfolding headText sizesText codes
 head-text facts s h =
     let height = numberText (codes "height=") (facts .height) in

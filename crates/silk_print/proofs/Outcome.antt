@@ -11,7 +11,7 @@ use lib.ListN.{length}
 use borrow.Author.Tests.{leb-true}
 use Rattle.base.proofs.Counting.{left, right}
 use Rattle.rules.specs.declared.Facts.{Facts}
-use Rattle.silk_print.specs.Print.{roomFor, printable, resultFits, printedAnswer, printedBuffer, Put, Printable}
+use Rattle.silk_print.specs.Print.{roomFor, lengthsFit, resultFits, printedAnswer, printedBuffer, Put, Printable}
 use Rattle.silk_print.specs.declared.Printed.the-variants.{Bytes, Refused}
 
 pub printed-no : {fits : Bool} → fits ≡ false → (text out : List ℕ) → (Refused 2 ≡ printedAnswer fits text) × (out ≡ printedBuffer fits text out)
@@ -23,7 +23,7 @@ unfolding printedAnswer printedBuffer
 printed-yes y {text = text} p = (rw y (ap Bytes (p .next ∙ zero-add (length text))), rw y (p .list))
 
 pub fits-printable : (facts : Facts) (palette : List Float) (cells : List ℤ) (out : List ℕ) → resultFits facts palette cells out ≡ true → Printable facts palette cells out
-unfolding resultFits printable
+unfolding resultFits lengthsFit
 fits-printable facts palette cells out y =
     let sides = leb (facts .height) 514 && leb (facts .width) 514 in
     let sizes = sides && leb (facts .colours) 256 in
@@ -34,7 +34,7 @@ fits-printable facts palette cells out y =
     let c : sizes ≡ true = left sizes (leb (3 * facts .colours) (length palette)) b in
     let d : sides ≡ true = left sides (leb (facts .colours) 256) c in
     record {
-      sized =
+      sizes =
           record {
             high = leb-true (facts .height) 514 (left (leb (facts .height) 514) (leb (facts .width) 514) d);
             wide = leb-true (facts .width) 514 (right (leb (facts .height) 514) (leb (facts .width) 514) d);

@@ -13,16 +13,16 @@ use lib.Seq.{drop-append-seam}
 use borrow.Author.Tests.{ltb-true, ltb-false, eq-eqb, ne-eqb}
 use Rattle.base.specs.Places.{any}
 use Rattle.base.proofs.Counting.{case}
-use Rattle.hex.specs.Hex.{space, mark, skip, trim, digit, allDigits, pair, sixDigits, hexToRgb8}
+use Rattle.hex.specs.Hex.{space, mark, dropWhile, stripped, digit, allDigits, pair, sixDigits, hexToRgb8}
 use Rattle.color.specs.declared.Rgb8.{Rgb8}
 use Rattle.hex.specs.declared.Hex.the-variants.{Colour}
 use Rattle.hex.proofs.Digits.{space-no, digit-decimal, digit-small}
-use Rattle.cursor.specs.Reader.{got, chain, _>>=_, _>>_, give, codes, bytes, newline, front, run, inLine, isDigit, value, proper, numberOf, number, natural, minus, negative, atMinus, cell, cellAt}
-use Rattle.cursor.specs.Lines.{hexOf, hexLine, colourLine}
+use Rattle.silk_reader.specs.Reader.{got, chain, _>>=_, _>>_, give, codes, bytes, newline, takeWhile, span, inLine, isDigit, value, proper, properNumber, number, natural, minus, negative, atMinus, cell, cellAt}
+use Rattle.silk_reader.specs.Lines.{hexOf, hexLine, colourLine}
 use Rattle.silk_print.specs.Claims.{InBytes}
 use Rattle.silk_print.specs.Print.{numeral, signedNumeral, cellText, hexDigit, hexByte, hexColour, colourText}
 use Rattle.silk_print.proofs.Digits.{numeral-one, numeral-more, more-length, numeral-short, hex-low, hex-high}
-use Rattle.cursor.proofs.Scanning.{digit-in, proper-one, proper-some}
+use Rattle.silk_reader.proofs.Scanning.{digit-in, proper-one, proper-some}
 
 -- ---- the digits of a number
 
@@ -36,26 +36,26 @@ by-digits P one more (suc k) n h =
 
 -- whatever follows, the digits pass
 abbrev Passing : ℕ → Type 0
-Passing n = (rest : List ℕ) → front isDigit (numeral n ++ rest) ≡ numeral n ++ front isDigit rest
+Passing n = (rest : List ℕ) → takeWhile isDigit (numeral n ++ rest) ≡ numeral n ++ takeWhile isDigit rest
 
-front-digit : (d : ℕ) (rest : List ℕ) → d < 10 → front isDigit ((48 + d) ∷ rest) ≡ (48 + d) ∷ front isDigit rest
-unfolding front
-front-digit d rest h = rw (sym (digit-in {c = 48 + d} (omega arith) (omega arith)))
+while-digit : (d : ℕ) (rest : List ℕ) → d < 10 → takeWhile isDigit ((48 + d) ∷ rest) ≡ (48 + d) ∷ takeWhile isDigit rest
+unfolding takeWhile
+while-digit d rest h = rw (sym (digit-in {c = 48 + d} (omega arith) (omega arith)))
 
 passing : (n : ℕ) → Passing n
 passing n = by-digits Passing one more (suc n) n (omega arith)
   where
     one : (m : ℕ) → m < 10 → Passing m
-    one m h rest = rw (numeral-one m h) (front-digit m rest h)
+    one m h rest = rw (numeral-one m h) (while-digit m rest h)
 
     more : (m : ℕ) → 10 ≤ m → Passing (m / 10) → Passing m
     more m h p rest =
         let d = (48 + m % 10) ∷ [] in
         rw (numeral-more m h)
-        (ap (front isDigit) (append-assoc (numeral (m / 10)) d rest)
+        (ap (takeWhile isDigit) (append-assoc (numeral (m / 10)) d rest)
         ∙ p (d ++ rest)
-        ∙ ap (λ (l : List ℕ). numeral (m / 10) ++ l) (front-digit (m % 10) rest (omega arith))
-        ∙ sym (append-assoc (numeral (m / 10)) d (front isDigit rest)))
+        ∙ ap (λ (l : List ℕ). numeral (m / 10) ++ l) (while-digit (m % 10) rest (omega arith))
+        ∙ sym (append-assoc (numeral (m / 10)) d (takeWhile isDigit rest)))
 
 value-more : (s : List ℕ) (v d : ℕ) → value v (s ++ d ∷ []) ≡ value v s * 10 + (d - 48)
 unfolding value
@@ -108,16 +108,16 @@ proper-is n h =
 pub record Stops (rest : List ℕ) : Type 0 where
   pub next : isDigit (getD rest 0 0) ≡ false
 
-front-stops : (rest : List ℕ) → Stops rest → front isDigit rest ≡ []
-unfolding front
-front-stops [] s = refl
-front-stops (x ∷ rest) s = rw (s .next)
+while-stops : (rest : List ℕ) → Stops rest → takeWhile isDigit rest ≡ []
+unfolding takeWhile
+while-stops [] s = refl
+while-stops (x ∷ rest) s = rw (s .next)
 
 pub number-back : (n : ℕ) → n < 10 ^ 9 → (rest : List ℕ) → Stops rest → number (numeral n ++ rest) ≡ got n rest
-unfolding number run chain _>>=_ numberOf
+unfolding number span chain _>>=_ properNumber
 number-back n h rest s =
-    let f : front isDigit (numeral n ++ rest) ≡ numeral n =
-    passing n rest ∙ ap (λ (l : List ℕ). numeral n ++ l) (front-stops rest s) ∙ append-nil (numeral n) in
+    let f : takeWhile isDigit (numeral n ++ rest) ≡ numeral n =
+    passing n rest ∙ ap (λ (l : List ℕ). numeral n ++ l) (while-stops rest s) ∙ append-nil (numeral n) in
     rw (f, drop-append-seam (numeral n) rest, proper-is n h, value-is n)
 
 no-minus : (n : ℕ) (rest : List ℕ) → atMinus (numeral n ++ rest) ≡ false
@@ -187,16 +187,16 @@ hexed d h = case (ltb d 10) (λ y. low (ltb-true d 10 y)) (λ z. high (ltb-false
         })
 
 module _ {c₁ c₂ c₃ c₄ c₅ c₆ d₁ d₂ d₃ d₄ d₅ d₆ : ℕ} (a : Hexed c₁ d₁) (b : Hexed c₂ d₂) (c : Hexed c₃ d₃) (d : Hexed c₄ d₄) (e : Hexed c₅ d₅) (f : Hexed c₆ d₆) where
-  six-front : (rest : List ℕ) → front inLine (c₁ ∷ c₂ ∷ c₃ ∷ c₄ ∷ c₅ ∷ c₆ ∷ 10 ∷ rest) ≡ c₁ ∷ c₂ ∷ c₃ ∷ c₄ ∷ c₅ ∷ c₆ ∷ []
-  unfolding front inLine
-  six-front rest = rw (a .goes, b .goes, c .goes, d .goes, e .goes, f .goes)
+  six-while : (rest : List ℕ) → takeWhile inLine (c₁ ∷ c₂ ∷ c₃ ∷ c₄ ∷ c₅ ∷ c₆ ∷ 10 ∷ rest) ≡ c₁ ∷ c₂ ∷ c₃ ∷ c₄ ∷ c₅ ∷ c₆ ∷ []
+  unfolding takeWhile inLine
+  six-while rest = rw (a .goes, b .goes, c .goes, d .goes, e .goes, f .goes)
 
   six-means : hexToRgb8 (c₁ ∷ c₂ ∷ c₃ ∷ c₄ ∷ c₅ ∷ c₆ ∷ []) ≡ Colour (record { r = d₁ * 16 + d₂; g = d₃ * 16 + d₄; b = d₅ * 16 + d₆ })
-  unfolding hexToRgb8 trim skip sixDigits allDigits any pair
+  unfolding hexToRgb8 stripped dropWhile sixDigits allDigits any pair
   six-means = rw (a .dark, f .dark, a .plain, a .means, b .means, c .means, d .means, e .means, f .means, a .small, b .small, c .small, d .small, e .small, f .small)
 
 pub colour-back : (c : Rgb8) → InBytes c → (rest : List ℕ) → colourLine (colourText c ++ rest) ≡ got c rest
-unfolding colourLine colourText hexLine hexColour hexByte hexOf bytes codes newline run chain _>>=_ _>>_
+unfolding colourLine colourText hexLine hexColour hexByte hexOf bytes codes newline span chain _>>=_ _>>_
 colour-back c h rest =
     let r₁ = hexed (c .r / 16) (omega (arith, h .red)) in
     let r₂ = hexed (c .r % 16) (omega arith) in
@@ -204,4 +204,4 @@ colour-back c h rest =
     let g₂ = hexed (c .g % 16) (omega arith) in
     let b₁ = hexed (c .b / 16) (omega (arith, h .blue)) in
     let b₂ = hexed (c .b % 16) (omega arith) in
-    rw (six-front r₁ r₂ g₁ g₂ b₁ b₂ rest, six-means r₁ r₂ g₁ g₂ b₁ b₂, div-add-mod' (c .r) 16, div-add-mod' (c .g) 16, div-add-mod' (c .b) 16)
+    rw (six-while r₁ r₂ g₁ g₂ b₁ b₂ rest, six-means r₁ r₂ g₁ g₂ b₁ b₂, div-add-mod' (c .r) 16, div-add-mod' (c .g) 16, div-add-mod' (c .b) 16)

@@ -13,19 +13,19 @@ use Rattle.base.proofs.Counting.{count-le}
 use Rattle.channel.specs.Channel.{thresholdOf, byteOf}
 use Rattle.color.specs.Lab.{entry, labToRgb8, matVec, rgbFromXyz, xyzOfLab}
 use Rattle.color.specs.declared.Lab.{Lab}
-use Rattle.cursor.specs.Reader.{got, Reader, chain, _>>=_, give, newline, codes, series, number, cellAt, line, numberLine}
-use Rattle.cursor.specs.Lines.{colourLine}
-use Rattle.silk_text.specs.Format.{colours, rowLine, rows}
+use Rattle.silk_reader.specs.Reader.{got, Reader, chain, _>>=_, give, newline, codes, series, number, cellAt, keyLine, numberLine}
+use Rattle.silk_reader.specs.Lines.{colourLine}
+use Rattle.silk_text.specs.Format.{colourLines, rowLine, rowLines}
 use Rattle.silk_print.specs.Print.{numeral, cellText, cellsText, numberText, colourText, coloursText, rowText, rowsText, each}
 use Rattle.silk_print.specs.Claims.{Reread, InBytes, NumberReread, ColourReread, RowReread, ColoursReread, RowsReread, ListsReread}
-use Rattle.cursor.proofs.Chaining.{line-yes}
+use Rattle.silk_reader.proofs.Chaining.{line-yes}
 use Rattle.silk_print.proofs.Printing.{eachFrom}
 use Rattle.silk_print.proofs.Rereading.{Stops, number-back, cell-at-back, comma-stops, line-stops, bytes-back, colour-back}
 use Rattle.silk_text.proofs.Whole.{row-fits, lists-yes}
 
 -- ---- lines
 
-line-back : {A : Type 0} (key s : List ℕ) (p : Reader A) (x : A) → ((rest : List ℕ) → Stops rest → p (s ++ rest) ≡ got x rest) → Reread (line key p) (key ++ s ++ newline) x
+line-back : {A : Type 0} (key s : List ℕ) (p : Reader A) (x : A) → ((rest : List ℕ) → Stops rest → p (s ++ rest) ≡ got x rest) → Reread (keyLine key p) (key ++ s ++ newline) x
 unfolding Reread
 line-back key s p x back rest =
     rw (append-assoc (key ++ s) newline rest, append-assoc key s (newline ++ rest))
@@ -83,7 +83,7 @@ rows-are cells w (suc n) y =
     rw (rows-are cells w n (suc y), e, suc-mul n w, add-comm (n * w) w) (sym (take-add w (n * w) l))
 
 pub rows-reread : RowsReread
-unfolding RowsReread RowReread Reread rows rowsText each eachFrom table _>>=_ chain give
+unfolding RowsReread RowReread Reread rowLines rowsText each eachFrom table _>>=_ chain give
 rows-reread cells h w d fits rest =
     rw (
       series-back (λ _. Unit) (λ y. rowLine w) (λ y. rowText cells (y * w) w) (λ y. take w (drop (y * w) cells)) h
@@ -107,7 +107,7 @@ in-bytes c =
     record { red = byte-small (getD v 0 nan); green = byte-small (getD v 1 nan); blue = byte-small (getD v 2 nan) }
 
 pub colours-reread : ColoursReread
-unfolding ColoursReread Reread colours coloursText each eachFrom table _>>=_ chain give
+unfolding ColoursReread Reread colourLines coloursText each eachFrom table _>>=_ chain give
 colours-reread palette k rest =
     rw (series-back (λ _. Unit) (λ i. colourLine) (λ i. colourText (labToRgb8 (entry palette i))) (λ i. labToRgb8 (entry palette i)) k
     (λ i l rest q. colour-back (labToRgb8 (entry palette i)) (in-bytes (entry palette i)) rest)

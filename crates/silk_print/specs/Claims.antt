@@ -9,12 +9,13 @@ use Rattle.base.specs.Places.{table}
 use Rattle.color.specs.Lab.{entry, labToRgb8}
 use Rattle.color.specs.declared.Rgb8.{Rgb8}
 use Rattle.rules.specs.declared.Facts.{Facts}
+use Rattle.rules.specs.Entries.{SizesInRange}
 use Rattle.rules.specs.declared.LineIndex as line-index
-use Rattle.cursor.specs.Reader.{got, Reader, numberLine}
-use Rattle.cursor.specs.Lines.{colourLine}
-use Rattle.silk_text.specs.Format.{doubles, colours, rowLine, rows, lists}
-use Rattle.cursor.specs.declared.head.Head.{Head}
-use Rattle.silk_print.specs.Print.{numberText, colourText, coloursText, rowText, rowsText, resultText, roomFor, Sized}
+use Rattle.silk_reader.specs.Reader.{got, Reader, numberLine}
+use Rattle.silk_reader.specs.Lines.{colourLine}
+use Rattle.silk_text.specs.Format.{doubles, colourLines, rowLine, rowLines, lists}
+use Rattle.silk_reader.specs.declared.head.Head.{Head}
+use Rattle.silk_print.specs.Print.{numberText, colourText, coloursText, rowText, rowsText, resultText, roomFor}
 
 -- a reader takes x from the front of whatever begins with the text
 unfoldable pub Reread : {A : Type 0} → Reader A → List ℕ → A → Type 0
@@ -46,12 +47,12 @@ RowReread =
 -- the printed colours of a palette are read as the LAB of the bytes that were printed
 unfoldable pub ColoursReread : Type 0
 ColoursReread =
-    (palette : List Float) (k : ℕ) → Reread (colours k) (coloursText palette k) (flatMap doubles (table k (λ i. labToRgb8 (entry palette i))))
+    (palette : List Float) (k : ℕ) → Reread (colourLines k) (coloursText palette k) (flatMap doubles (table k (λ i. labToRgb8 (entry palette i))))
 
 -- the cells of all rows are read back
 unfoldable pub RowsReread : Type 0
 RowsReread =
-    (cells : List ℤ) (h w : ℕ) → NineDigits cells → h * w ≤ length cells → Reread (rows h w) (rowsText cells h w) (take (h * w) cells)
+    (cells : List ℤ) (h w : ℕ) → NineDigits cells → h * w ≤ length cells → Reread (rowLines h w) (rowsText cells h w) (take (h * w) cells)
 
 -- and so are all colours and rows of a result, as the lines after a head
 unfoldable pub ListsReread : Type 0
@@ -72,7 +73,7 @@ pub record TenDigits (facts : Facts) (cells : List ℤ) : Type 0 where
 -- the room that is asked for holds the text
 unfoldable pub RoomEnough : Type 0
 RoomEnough =
-    (facts : Facts) (palette : List Float) (cells : List ℤ) → Sized facts → TenDigits facts cells → length (resultText facts palette cells) ≤ roomFor facts
+    (facts : Facts) (palette : List Float) (cells : List ℤ) → SizesInRange facts → TenDigits facts cells → length (resultText facts palette cells) ≤ roomFor facts
 
 -- a sheet of 40 by 40 cells that was padded, with 256 colours, is printed into 32,768 bytes
 unfoldable pub SheetRoom : Type 0

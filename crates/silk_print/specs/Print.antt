@@ -13,7 +13,8 @@ use Rattle.color.specs.declared.Rgb8.{Rgb8}
 use Rattle.rules.specs.declared.LineIndex.{LineIndex}
 use Rattle.rules.specs.declared.LineIndex as line-index
 use Rattle.rules.specs.declared.Facts.{Facts}
-use Rattle.cursor.specs.Reader.{codes, newline}
+use Rattle.rules.specs.Entries.{SizesInRange}
+use Rattle.silk_reader.specs.Reader.{codes, newline}
 use Rattle.silk_text.specs.Answers.{laid}
 use Rattle.silk_print.specs.declared.Printed.{Printed}
 use Rattle.silk_print.specs.declared.Printed.the-variants.{Bytes, Refused}
@@ -119,8 +120,8 @@ unfoldable pub roomFor : Facts → ℕ
 roomFor facts = 97 + 14 * facts .colours + facts .height * (5 + 12 * facts .width)
 
 -- whether a result is printed: its sides and colours are in range, and so many doubles, cells and bytes are enough
-unfoldable pub printable : Facts → ℕ → ℕ → ℕ → Bool
-printable facts doubles cells room =
+unfoldable pub lengthsFit : Facts → ℕ → ℕ → ℕ → Bool
+lengthsFit facts doubles cells room =
     leb (facts .height) 514
     && leb (facts .width) 514
     && leb (facts .colours) 256
@@ -130,7 +131,7 @@ printable facts doubles cells room =
 
 -- whether a result is printed, by its lists and the buffer
 unfoldable pub resultFits : Facts → List Float → List ℤ → List ℕ → Bool
-resultFits facts palette cells out = printable facts (length palette) (length cells) (length out)
+resultFits facts palette cells out = lengthsFit facts (length palette) (length cells) (length out)
 
 -- twelve bytes hold any refusal
 unfoldable pub refusalFits : List ℕ → Bool
@@ -150,15 +151,9 @@ pub record Put (n : ℕ) (text : List ℕ) (at : ℕ) (old new : List ℕ) (end 
   pub list : new ≡ laid at text old
   pub next : end ≡ at + length text
 
--- sizes that are in range
-pub record Sized (facts : Facts) : Type 0 where
-  pub high : facts .height ≤ 514
-  pub wide : facts .width ≤ 514
-  pub few : facts .colours ≤ 256
-
--- a result of such sizes, with lists that hold it and room for it
+-- a result with sizes in range, with lists that hold it and room for it
 pub record Printable (facts : Facts) (palette : List Float) (cells : List ℤ) (out : List ℕ) : Type 0 where
-  pub sized : Sized facts
+  pub sizes : SizesInRange facts
   pub entries : 3 * facts .colours ≤ length palette
   pub sheet : facts .height * facts .width ≤ length cells
   pub room : roomFor facts ≤ length out

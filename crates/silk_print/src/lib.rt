@@ -6,7 +6,8 @@ ghost use mathlib.Core.Bool.{not};
 ghost use lib.IntN.{natAbs};
 ghost use lib.Signed.{nonNeg};
 ghost use lib.ListN.{length};
-ghost use Rattle.silk_print.specs.Print.{numeral, signedNumeral, hexDigit, hexByte, hexColour, numberText, indexText, clippedText, headText, colourText, coloursText, cellText, cellsText, rowText, rowsText, resultText, refusalText, printable, resultFits, refusalFits, printedAnswer, printedBuffer, Put, Sized, Printable, roomFor, sizesText};
+ghost use Rattle.rules.specs.Entries.{SizesInRange};
+ghost use Rattle.silk_print.specs.Print.{numeral, signedNumeral, hexDigit, hexByte, hexColour, numberText, indexText, clippedText, headText, colourText, coloursText, cellText, cellsText, rowText, rowsText, resultText, refusalText, lengthsFit, resultFits, refusalFits, printedAnswer, printedBuffer, Put, Printable, roomFor, sizesText};
 use channel::threshold_table;
 use color::Rgb8;
 use color::cielab::entry;
@@ -237,7 +238,7 @@ fn put_clipped(out: &mut [u8], at: usize, clipped: bool) -> usize
 
 // The first three heads.
 fn put_sizes(out: &mut [u8], at: usize, facts: Facts) -> usize
-    requires { ⌜ Sized facts × (at + 54 ≤ length (now out)) ⌝ }
+    requires { ⌜ SizesInRange facts × (at + 54 ≤ length (now out)) ⌝ }
     ensures { λ r. ⌜ Put 54 (sizesText facts) at (now (out .entry)) (now (out .exit)) r ⌝ }
 {
     let width = put_number_line(out, at, b"height=", facts.height);
@@ -247,7 +248,7 @@ fn put_sizes(out: &mut [u8], at: usize, facts: Facts) -> usize
 
 // The five heads.
 fn put_head(out: &mut [u8], at: usize, facts: Facts) -> usize
-    requires { ⌜ Sized facts × (at + 97 ≤ length (now out)) ⌝ }
+    requires { ⌜ SizesInRange facts × (at + 97 ≤ length (now out)) ⌝ }
     ensures { λ r. ⌜ Put 97 (headText facts) at (now (out .entry)) (now (out .exit)) r ⌝ }
 {
     let index = facts.outline_index;
@@ -267,8 +268,8 @@ fn put_result(out: &mut [u8], facts: Facts, palette: &[f64], cells: &[i32]) -> u
 }
 
 // Whether so many doubles, cells and bytes are enough for a result.
-fn printable(facts: Facts, doubles: usize, cells: usize, room: usize) -> bool
-    ensures { λ r. ⌜ r ≡ printable facts doubles cells room ⌝ }
+fn lengths_fit(facts: Facts, doubles: usize, cells: usize, room: usize) -> bool
+    ensures { λ r. ⌜ r ≡ lengthsFit facts doubles cells room ⌝ }
 {
     let h = facts.height;
     let w = facts.width;
@@ -296,7 +297,7 @@ pub fn print_result(facts: Facts, palette: &[f64], cells: &[i32], out: &mut [u8]
     ensures { λ r. ⌜ r ≡ printedAnswer (resultFits facts (now (palette .entry)) (now (cells .entry)) (now (out .entry))) (resultText facts (now (palette .entry)) (now (cells .entry))) ⌝ }
     ensures { λ r. ⌜ now (out .exit) ≡ printedBuffer (resultFits facts (now (palette .entry)) (now (cells .entry)) (now (out .entry))) (resultText facts (now (palette .entry)) (now (cells .entry))) (now (out .entry)) ⌝ }
 {
-    if !printable(facts, palette.len(), cells.len(), out.len()) {
+    if !lengths_fit(facts, palette.len(), cells.len(), out.len()) {
         return Printed::Refused(2);
     }
     Printed::Bytes(put_result(out, facts, palette, cells))

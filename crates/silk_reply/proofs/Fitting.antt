@@ -10,14 +10,14 @@ use lib.IntN.{ℤ}
 use lib.ListN.{length, length-append, length-drop}
 use Rattle.base.specs.Refusals.{unless}
 use Rattle.base.proofs.Counting.{both, yes-leb}
-use Rattle.rules.specs.Entries.{factsOf, runAnswer, runCells, runPalette}
-use Rattle.rules.specs.Run.{Ran, process}
+use Rattle.rules.specs.Calls.{RunCall}
+use Rattle.rules.specs.Entries.{factsOf, runRefusal, runAnswer, runCells, runPalette}
+use Rattle.rules.specs.Run.{Result, process}
 use Rattle.rules.specs.Sheet.{over}
 use Rattle.rules.specs.declared.Facts.{Facts}
 use Rattle.rules.specs.declared.Processing.the-variants.{Processed, Refused}
 use Rattle.postprocess.proofs.Chain.{left}
-use Rattle.run_checks.proofs.Refusing.{Call, sheet, judged}
-use Rattle.silk_print.specs.Print.{roomFor, printable}
+use Rattle.silk_print.specs.Print.{roomFor, lengthsFit}
 
 -- ---- the room
 
@@ -29,8 +29,8 @@ room k h w a b c =
 
 -- a result of so many entries and cells is printed
 fitting : (facts : Facts) (doubles cells : ℕ) → facts .height ≤ 514 → facts .width ≤ 514 → facts .colours ≤ 256 → 768 ≤ doubles →
-    facts .height * facts .width ≤ 1764 → 1764 ≤ cells → printable facts doubles cells 32768 ≡ true
-unfolding printable roomFor
+    facts .height * facts .width ≤ 1764 → 1764 ≤ cells → lengthsFit facts doubles cells 32768 ≡ true
+unfolding lengthsFit roomFor
 fitting facts doubles cells a b c d e f =
     let entries : 3 * facts .colours ≤ doubles = omega arith in
     let held : facts .height * facts .width ≤ cells = omega arith in
@@ -43,27 +43,25 @@ over-length new lent = simp (length-append, length-drop) (omega arith)
 
 -- ---- a call on 42 by 42 cells
 
-module _ (x : Call) (lent : length (x .cells) ≡ 1764) where
-  abbrev after : Ran
-  after = process (x .config) (x .saturated) (x .fixed) (x .margin) (sheet x) (x .palette)
+module _ (x : RunCall) (lent : length (x .lent .cells) ≡ 1764) where
+  abbrev after : Result
+  after = process x
 
   abbrev facts : Facts
   facts = factsOf (after .sheet) (after .palette) (after .index) (after .clipped)
 
-  accepted : judged x ≡ none → printable facts (length (after .palette .lab)) (length (over (after .sheet .cells) (x .cells))) 32768 ≡ true
+  accepted : runRefusal x ≡ none → lengthsFit facts (length (after .palette .lab)) (length (over (after .sheet .cells) (x .lent .cells))) 32768 ≡ true
   unfolding factsOf
   accepted e =
       let l = left x e in
-      fitting facts _ _ (l .high) (l .wide) (l .few) (omega (arith, l .full)) (omega (arith, l .held)) (omega (arith, over-length (after .sheet .cells) (x .cells)))
+      fitting facts _ _ (l .high) (l .wide) (l .few) (omega (arith, l .full)) (omega (arith, l .held)) (omega (arith, over-length (after .sheet .cells) (x .lent .cells)))
 
   -- what `run` answers is printed
-  pub printed : {f : Facts} {p q : ℕ} → runAnswer (x .cells) (x .h) (x .w) (x .palette) (x .config) (x .saturated) (x .fixed) (x .margin) (x .work) ≡ Processed f p q →
-      printable f (length (runPalette (x .cells) (x .h) (x .w) (x .palette) (x .config) (x .saturated) (x .fixed) (x .margin) (x .work)))
-      (length (runCells (x .cells) (x .h) (x .w) (x .palette) (x .config) (x .saturated) (x .fixed) (x .margin) (x .work))) 32768 ≡ true
+  pub printed : {f : Facts} {p q : ℕ} → runAnswer x ≡ Processed f p q → lengthsFit f (length (runPalette x)) (length (runCells x)) 32768 ≡ true
   unfolding runAnswer runPalette runCells unless
-  printed {f} {p} {q} e = go (judged x) refl e
+  printed {f} {p} {q} e = go (runRefusal x) refl e
     where
-      go : (o : Option ℕ) → judged x ≡ o → unless o Refused (Processed facts (after .passes) (after .again)) ≡ Processed f p q →
-          printable f (length (unless o (λ n. x .palette .lab) (after .palette .lab))) (length (unless o (λ n. x .cells) (over (after .sheet .cells) (x .cells)))) 32768 ≡ true
+      go : (o : Option ℕ) → runRefusal x ≡ o → unless o Refused (Processed facts (after .passes) (after .again)) ≡ Processed f p q →
+          lengthsFit f (length (unless o (λ n. x .palette .lab) (after .palette .lab))) (length (unless o (λ n. x .lent .cells) (over (after .sheet .cells) (x .lent .cells)))) 32768 ≡ true
       go none r t = let s : facts ≡ f = cc in rw (← s) (accepted r)
       go (some n) r t = let z : _≡_ {A = ℕ} 0 1 = cc in absurd (omega arith)

@@ -13,8 +13,8 @@ use Rattle.base.specs.Doubles.{decimal}
 use Rattle.rules.specs.Rows.{tooLarge, tooShort, cramped, badPalette}
 use Rattle.rules.specs.Sheet.{needed}
 use Rattle.silk_text.specs.Answers.{laid, lent}
-use Rattle.silk_text.specs.Format.{File, file, ended, most, parse}
-use Rattle.cursor.specs.Reader.{Got, got, refused, Reader, chain}
+use Rattle.silk_text.specs.Format.{File, file, ended, maxBytes, parse}
+use Rattle.silk_reader.specs.Reader.{Got, got, refused, Reader, chain}
 use Rattle.silk_text.proofs.Laying.{laid-length}
 use Rattle.silk_text.proofs.Whole.{lent-got}
 use Rattle.silk_text.proofs.Keeping.{Small, parse-small}
@@ -37,7 +37,7 @@ chain-same (got x rest) f h e = e x rest
 chain-same (refused n) f h e = refl
 
 parse-cut : (text : List ℕ) → parse (take 65537 text) ≡ parse text
-unfolding parse most
+unfolding parse maxBytes
 parse-cut text =
     rw (take-take 65536 65537 text (omega arith))
     (chain-same (file (take 65536 text)) _ _ (λ f rest. ended-same f rest (drop 65536 (take 65537 text)) (drop 65536 text)

@@ -8,21 +8,21 @@ use lib.IntN.{ℤ}
 use lib.Ieee.{Float}
 use lib.ListN.{length}
 use Rattle.rules.specs.Palette.{paletteOf}
+use Rattle.rules.specs.Sheet.{lentSheet}
 use Rattle.rules.specs.declared.Facts.{Facts}
 use Rattle.rules.specs.declared.Processing.{Processing}
 use Rattle.rules.specs.declared.Processing.the-variants.{Processed, Refused}
 use Rattle.postprocess.proofs.Chain.{Met}
-use Rattle.run_checks.proofs.Refusing.{Call}
 use Rattle.silk_text.specs.Answers.{readInto, readAnswer, readPalette, readCells, lent}
 use Rattle.silk_text.specs.Format.{File, parse}
 use Rattle.silk_print.specs.Print.{resultText, refusalText, resultFits, printedAnswer, printedBuffer}
 use Rattle.silk_text.specs.declared.sheet.Parsed
 use Rattle.silk_text.specs.declared.sheet.Parsed.{Parsed}
 use Rattle.silk_text.specs.declared.sheet.Parsed.the-variants.{Sheet}
-use Rattle.cursor.specs.Reader.{Got, got, refused}
-use Rattle.cursor.specs.declared.head.Head.{Head}
+use Rattle.silk_reader.specs.Reader.{Got, got, refused}
+use Rattle.silk_reader.specs.declared.head.Head.{Head}
 use Rattle.silk_print.specs.declared.Printed.{Printed}
-use Rattle.silk_reply.specs.Reply.{noColours, noCells, workSize, Ran, Front, answerText, sheetText, gotText, silkText, counted}
+use Rattle.silk_reply.specs.Reply.{noColours, noCells, workSize, callOf, Ran, Front, answerText, sheetText, gotText, silkText, counted}
 use Rattle.silk_reply.proofs.Fitting.{printed}
 use Rattle.silk_reply.proofs.Putting.{put}
 
@@ -56,27 +56,15 @@ module _ (text : List ℕ) {answer : Parsed} (a : answer ≡ readAnswer (readInt
 
 -- ---- by what `run` came to
 
--- the arguments of a call, with some margin and work area
-abbrev call : Head → List Float → List ℤ → ℤ → ℕ → Call
-call h palette cells margin work =
-    record {
-      cells = cells;
-      h = h .height;
-      w = h .width;
-      palette = paletteOf palette (h .colours);
-      config = h .config;
-      saturated = h .saturated;
-      fixed = h .fixed;
-      margin = margin;
-      work = work;
-    }
-
 -- what the code's call promises, with the margin and the work area as it has them
 pub called : (h : Head) (palette : List Float) (cells : List ℤ) {margin : ℤ} {work : ℕ} {answer : Processing} {palette′ : List Float} {cells′ : List ℤ} →
-    margin ≡ h .margin → work ≡ workSize → length cells ≡ 1764 → Met (call h palette cells margin work) answer cells′ palette′ → Ran h palette cells answer palette′ cells′
-called h palette cells m k l t = record { answers = rw (m, k) at (t .0); colours = rw (m, k) at (t .1 .1); sheet = rw (m, k) at (t .1 .0); lent = l }
+    margin ≡ h .margin → work ≡ workSize → length cells ≡ 1764 →
+    Met (record { lent = lentSheet cells (h .height) (h .width) work; palette = paletteOf palette (h .colours); config = h .config; saturated = h .saturated; fixed = h .fixed; margin = margin }) answer cells′ palette′ →
+    Ran (callOf h palette cells) answer palette′ cells′
+unfolding callOf
+called h palette cells m k l t = record { answers = rw (m, k) at (t .0); colours = rw (m, k) at (t .2); sheet = rw (m, k) at (t .1); lent = l }
 
-module _ {h : Head} {palette : List Float} {cells : List ℤ} {answer : Processing} {palette′ : List Float} {cells′ : List ℤ} (c : Ran h palette cells answer palette′ cells′) where
+module _ (h : Head) (palette : List Float) (cells : List ℤ) {answer : Processing} {palette′ : List Float} {cells′ : List ℤ} (c : Ran (callOf h palette cells) answer palette′ cells′) where
   pub sheet-refused : {n : ℕ} → answer ≡ Refused n → sheetText h palette cells ≡ refusalText n
   unfolding sheetText answerText
   sheet-refused e = rw (← c .answers, e)
@@ -92,5 +80,5 @@ module _ {h : Head} {palette : List Float} {cells : List ℤ} {answer : Processi
         new ≡ printedBuffer (resultFits f palette′ cells′ old) (resultText f palette′ cells′) old → r ≡ counted x → Front (sheetText h palette cells) old new r
     unfolding resultFits
     sheet-put {old} m u v w =
-        let fits : resultFits f palette′ cells′ old ≡ true = rw (c .colours, c .sheet, m) (printed (call h palette cells (h .margin) workSize) (c .lent) (sym (c .answers) ∙ e)) in
+        let fits : resultFits f palette′ cells′ old ≡ true = rw (c .colours, c .sheet, m) (printed (callOf h palette cells) (c .lent) (sym (c .answers) ∙ e)) in
         rw sheet-result (put _ (resultText f palette′ cells′) fits u v w)

@@ -1,6 +1,5 @@
 -- What the program `silk` prints for the bytes of its standard input. Definitions only. Assumes nothing.
 use Prim.Native.Nat.{ℕ, _*_}
-use mathlib.Core.Bool.{Bool}
 use mathlib.Core.List.{List}
 use mathlib.Core.Path.{_≡_}
 use lib.Ieee.{Float}
@@ -8,15 +7,16 @@ use lib.IntN.{ℤ, pos}
 use lib.ListN.{length, replicate}
 use Rattle.base.specs.Doubles.{decimal}
 use Rattle.rules.specs.Entries.{runAnswer, runCells, runPalette}
-use Rattle.rules.specs.Palette.{Palette, paletteOf}
-use Rattle.rules.specs.declared.PostConfig.{PostConfig}
+use Rattle.rules.specs.Calls.{RunCall}
+use Rattle.rules.specs.Palette.{paletteOf}
+use Rattle.rules.specs.Sheet.{lentSheet}
 use Rattle.rules.specs.declared.Processing.{Processing}
 use Rattle.rules.specs.declared.Processing.the-variants.{Processed, Refused}
 use Rattle.silk_text.specs.Answers.{laid, lent}
 use Rattle.silk_text.specs.Format.{File, parse}
 use Rattle.silk_print.specs.Print.{resultText, refusalText}
-use Rattle.cursor.specs.Reader.{Got, got, refused}
-use Rattle.cursor.specs.declared.head.Head.{Head}
+use Rattle.silk_reader.specs.Reader.{Got, got, refused}
+use Rattle.silk_reader.specs.declared.head.Head.{Head}
 use Rattle.silk_print.specs.declared.Printed
 use Rattle.silk_print.specs.declared.Printed.{Printed}
 
@@ -36,10 +36,17 @@ workSize = 8 * (42 * 42)
 
 -- ---- what is printed
 
--- a definition of `run`'s, on a head and lent lists
-abbrev pub ran : {A : Type 0} → (List ℤ → ℕ → ℕ → Palette → PostConfig → Bool → Bool → ℤ → ℕ → A) → Head → List Float → List ℤ → A
-ran f h palette cells =
-    f cells (h .height) (h .width) (paletteOf palette (h .colours)) (h .config) (h .saturated) (h .fixed) (h .margin) workSize
+-- the call of `run` that a head, a palette and cells make
+unfoldable pub callOf : Head → List Float → List ℤ → RunCall
+callOf h palette cells =
+    record {
+      lent = lentSheet cells (h .height) (h .width) workSize;
+      palette = paletteOf palette (h .colours);
+      config = h .config;
+      saturated = h .saturated;
+      fixed = h .fixed;
+      margin = h .margin;
+    }
 
 -- an answer of `run`, with the palette and the cells that it left
 unfoldable pub answerText : Processing → List Float → List ℤ → List ℕ
@@ -48,7 +55,7 @@ answerText (Refused n) palette cells = refusalText n
 
 -- `run` on a sheet that was read
 unfoldable pub sheetText : Head → List Float → List ℤ → List ℕ
-sheetText h palette cells = answerText (ran runAnswer h palette cells) (ran runPalette h palette cells) (ran runCells h palette cells)
+sheetText h palette cells = let c = callOf h palette cells in answerText (runAnswer c) (runPalette c) (runCells c)
 
 -- what reading came to
 unfoldable pub gotText : Got File → List ℕ
@@ -62,11 +69,11 @@ silkText text = gotText (lent noColours noCells (parse text))
 -- ---- the code's parts
 
 -- a call of `run` on the lent lists: its answer, and the palette and the cells that it left
-pub record Ran (h : Head) (palette : List Float) (cells : List ℤ) (answer : Processing) (palette′ : List Float) (cells′ : List ℤ) : Type 0 where
-  pub answers : answer ≡ ran runAnswer h palette cells
-  pub colours : palette′ ≡ ran runPalette h palette cells
-  pub sheet : cells′ ≡ ran runCells h palette cells
-  pub lent : length cells ≡ 1764
+pub record Ran (c : RunCall) (answer : Processing) (palette : List Float) (cells : List ℤ) : Type 0 where
+  pub answers : answer ≡ runAnswer c
+  pub colours : palette ≡ runPalette c
+  pub sheet : cells ≡ runCells c
+  pub lent : length (c .lent .cells) ≡ 1764
 
 -- a text stands at the front of a buffer, and how many bytes it has is told
 pub record Front (text old new : List ℕ) (count : ℕ) : Type 0 where

@@ -3,13 +3,13 @@ ghost use mathlib.Core.Path.{_≡_};
 ghost use lib.ListN.{length, take};
 ghost use Rattle.silk_text.specs.Answers.{laid};
 ghost use Rattle.silk_print.specs.Print.{refusalText};
-ghost use Rattle.silk_reply.specs.Reply.{sheetText, silkText, Ran, Front, counted};
-use cursor::head::Head;
+ghost use Rattle.silk_reply.specs.Reply.{callOf, sheetText, silkText, Ran, Front, counted};
 use postprocess::run;
 use rules::Processing;
 use silk_print::Printed;
 use silk_print::print_refusal;
 use silk_print::print_result;
+use silk_reader::head::Head;
 use silk_text::sheet::Parsed;
 use silk_text::sheet::read;
 
@@ -47,7 +47,7 @@ fn put_refusal(n: u8, out: &mut [u8; ROOM]) -> usize
 
 // `run` on a sheet that was read.
 fn run_sheet(h: Head, palette: &mut [f64; DOUBLES], cells: &mut [i32; CELLS]) -> Processing
-    ensures { λ r. ⌜ Ran h (now (palette .entry)) (now (cells .entry)) r (now (palette .exit)) (now (cells .exit)) ⌝ }
+    ensures { λ r. ⌜ Ran (callOf h (now (palette .entry)) (now (cells .entry))) r (now (palette .exit)) (now (cells .exit)) ⌝ }
 {
     let config = h.config;
     let mut work = [0u32; WORK];

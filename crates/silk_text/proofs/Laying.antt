@@ -7,9 +7,9 @@ use native.Mathlib.Numerals.{add-one}
 use native.Mathlib.Omega.{arith}
 use lib.ListN.{length, getD, take, drop, set, length-append, length-drop, length-set, take-append-drop}
 use lib.Seq.{take-at, take-suc, drop-append-add, drop-drop, length-take-le, sets, sets-eq}
-use Rattle.cursor.specs.Reader.{Got, got, refused, Reader, chain, _>>=_, give}
+use Rattle.silk_reader.specs.Reader.{Got, got, refused, Reader, chain, _>>=_, give}
 use Rattle.silk_text.specs.Answers.{laid, onto}
-use Rattle.cursor.proofs.Chaining.{chain-first}
+use Rattle.silk_reader.proofs.Chaining.{chain-first}
 
 module _ {A : Type 0} where
   pub laid-none : (at : ℕ) (old : List A) → old ≡ laid at [] old

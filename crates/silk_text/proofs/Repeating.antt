@@ -6,9 +6,9 @@ use native.Mathlib.Nat.{zero-mul, suc-mul, sub-zero}
 use native.Mathlib.Numerals.{add-one}
 use native.Mathlib.Omega.{arith}
 use lib.ListN.{length, length-append}
-use Rattle.cursor.specs.Reader.{Got, got, refused, Reader, chain, series}
+use Rattle.silk_reader.specs.Reader.{Got, got, refused, Reader, chain, series}
 use Rattle.silk_text.specs.Answers.{laid}
-use Rattle.cursor.proofs.Chaining.{chain-first}
+use Rattle.silk_reader.proofs.Chaining.{chain-first}
 use Rattle.silk_text.proofs.Laying.{laid-none, laid-length, laid-more}
 
 module _ {A B : Type 0} where

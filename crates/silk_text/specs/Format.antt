@@ -6,9 +6,9 @@ use lib.IntN.{ℤ}
 use lib.Ieee.{Float}
 use Rattle.color.specs.Lab.{rgb8ToLab}
 use Rattle.color.specs.declared.Rgb8.{Rgb8}
-use Rattle.cursor.specs.declared.head.Head.{Head}
-use Rattle.cursor.specs.Reader.{Got, got, refused, Reader, chain, _>>=_, give, series, codes, cellAt, line}
-use Rattle.cursor.specs.Lines.{head, colourLine}
+use Rattle.silk_reader.specs.declared.head.Head.{Head}
+use Rattle.silk_reader.specs.Reader.{Got, got, refused, Reader, chain, _>>=_, give, series, codes, cellAt, keyLine}
+use Rattle.silk_reader.specs.Lines.{head, colourLine}
 
 -- ---- colours and rows
 
@@ -17,18 +17,18 @@ unfoldable pub doubles : Rgb8 → List Float
 doubles c = rgb8ToLab c .l ∷ rgb8ToLab c .a ∷ rgb8ToLab c .b ∷ []
 
 -- k colour lines
-unfoldable pub colours : ℕ → Reader (List Float)
-colours k = do
+unfoldable pub colourLines : ℕ → Reader (List Float)
+colourLines k = do
   cs ← series 0 k (λ i. colourLine)
   give (flatMap doubles cs)
 
 -- w cells
 unfoldable pub rowLine : ℕ → Reader (List ℤ)
-rowLine w = line (codes "row=") (series 0 w cellAt)
+rowLine w = keyLine (codes "row=") (series 0 w cellAt)
 
 -- h rows of w cells
-unfoldable pub rows : ℕ → ℕ → Reader (List ℤ)
-rows h w = do
+unfoldable pub rowLines : ℕ → ℕ → Reader (List ℤ)
+rowLines h w = do
   rs ← series 0 h (λ y. rowLine w)
   give (flatMap (λ r. r) rs)
 
@@ -43,10 +43,11 @@ pub record File : Type 0 where
 -- the lines after the head's
 unfoldable pub lists : Head → Reader File
 lists h = do
-  palette ← colours (h .colours)
-  cells ← rows (h .height) (h .width)
+  palette ← colourLines (h .colours)
+  cells ← rowLines (h .height) (h .width)
   give (record { head = h; palette = palette; cells = cells })
 
+-- the head and the lines after it
 unfoldable pub file : Reader File
 file = head >>= lists
 
@@ -56,9 +57,9 @@ ended f [] = got f []
 ended f (c ∷ cs) = refused 10
 
 -- how many bytes are read at most
-unfoldable pub most : ℕ
-most = 65536
+unfoldable pub maxBytes : ℕ
+maxBytes = 65536
 
 -- bytes beyond those follow the last row, or keep a line from its end
 unfoldable pub parse : List ℕ → Got File
-parse text = chain (file (take most text)) (λ f rest. ended f (rest ++ drop most text))
+parse text = chain (file (take maxBytes text)) (λ f rest. ended f (rest ++ drop maxBytes text))

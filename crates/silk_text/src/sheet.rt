@@ -2,22 +2,22 @@
 ghost use mathlib.Core.Path.{_≡_};
 ghost use Prim.Native.Nat.{_+_, _*_, _≤_, _<_};
 ghost use lib.ListN.{length, take, drop};
-ghost use Rattle.cursor.specs.Reader.{series, cellAt};
-ghost use Rattle.silk_text.specs.Format.{doubles, rowLine, rows, lists, file, most, parse};
-ghost use Rattle.silk_text.specs.Answers.{laid, onto, filledTo, steppedTo, lent, filed, parsed, doublesOf, cellsOf, readInto, readAnswer, readPalette, readCells};
+ghost use Rattle.silk_reader.specs.Reader.{series, cellAt};
+ghost use Rattle.silk_text.specs.Format.{doubles, colourLines, rowLine, rowLines, lists, file, maxBytes, parse};
+ghost use Rattle.silk_text.specs.Answers.{laid, onto, gotList, gotListBytes, lent, gotFile, gotSheet, doublesRead, cellsRead, readInto, readAnswer, readPalette, readCells};
 ghost use Rattle.channel.specs.Channel.{DecodeTable};
 use channel::decode_table;
 use color::Rgb8;
 use color::cielab::rgb8_to_lab_by;
-use cursor::Cell;
-use cursor::Colour;
-use cursor::Cursor;
-use cursor::Step;
-use cursor::head::Head;
-use cursor::head::HeadRead;
+use silk_reader::BytesRead;
+use silk_reader::CellRead;
+use silk_reader::ColourRead;
+use silk_reader::Cursor;
+use silk_reader::head::Head;
+use silk_reader::head::HeadRead;
 
 // What reading into a lent list comes to.
-pub enum Reading {
+pub enum ListRead {
     To(Cursor),
     Refused(u8),
 }
@@ -42,78 +42,78 @@ fn put_colour(table: &[u64], palette: &mut [f64], i: usize, c: Rgb8)
 }
 
 // Colour lines, into the front of a palette.
-fn read_colours(text: &[u8], from: Cursor, colours: usize, palette: &mut [f64]) -> Reading
+fn read_colours(text: &[u8], from: Cursor, colours: usize, palette: &mut [f64]) -> ListRead
     requires { ⌜ 3 * colours ≤ length (now palette) ⌝ }
-    ensures { λ r. ⌜ filledTo (now (text .entry)) (now (palette .exit)) r ≡ onto 0 (now (palette .entry)) (Rattle.silk_text.specs.Format.colours colours) (drop (from .at) (now (text .entry))) ⌝ }
+    ensures { λ r. ⌜ gotList (now (text .entry)) (now (palette .exit)) r ≡ onto 0 (now (palette .entry)) (colourLines colours) (drop (from .at) (now (text .entry))) ⌝ }
 {
     let table = decode_table();
     let mut to = from;
     let mut i = 0;
     while i < colours {
         match to.colour_line(text) {
-            Colour::Value(c, next) => {
+            ColourRead::Value(c, next) => {
                 put_colour(&table, palette, i, c);
                 to = next;
             }
-            Colour::Refused(n) => return Reading::Refused(n),
+            ColourRead::Refused(n) => return ListRead::Refused(n),
         }
         i += 1;
     }
-    Reading::To(to)
+    ListRead::To(to)
 }
 
 // The cells of a row, from a place of the sheet on.
-fn read_cells(text: &[u8], from: Cursor, w: usize, at: usize, cells: &mut [i32]) -> Step
+fn read_cells(text: &[u8], from: Cursor, w: usize, at: usize, cells: &mut [i32]) -> BytesRead
     requires { ⌜ at + w ≤ length (now cells) ⌝ }
-    ensures { λ r. ⌜ steppedTo (now (text .entry)) (now (cells .exit)) r ≡ onto at (now (cells .entry)) (series 0 w cellAt) (drop (from .at) (now (text .entry))) ⌝ }
+    ensures { λ r. ⌜ gotListBytes (now (text .entry)) (now (cells .exit)) r ≡ onto at (now (cells .entry)) (series 0 w cellAt) (drop (from .at) (now (text .entry))) ⌝ }
 {
     let mut to = from;
     let mut x = 0;
     while x < w {
-        let Cell::Value(c, next) = to.cell_at(text, x) else {
-            return Step::Malformed;
+        let CellRead::Value(c, next) = to.cell_at(text, x) else {
+            return BytesRead::Malformed;
         };
         let place = at + x;
         cells[place] = c;
         to = next;
         x += 1;
     }
-    Step::To(to)
+    BytesRead::To(to)
 }
 
 // A row, from a place of the sheet on.
-fn read_row(text: &[u8], from: Cursor, w: usize, at: usize, cells: &mut [i32]) -> Step
+fn read_row(text: &[u8], from: Cursor, w: usize, at: usize, cells: &mut [i32]) -> BytesRead
     requires { ⌜ at + w ≤ length (now cells) ⌝ }
-    ensures { λ r. ⌜ steppedTo (now (text .entry)) (now (cells .exit)) r ≡ onto at (now (cells .entry)) (rowLine w) (drop (from .at) (now (text .entry))) ⌝ }
+    ensures { λ r. ⌜ gotListBytes (now (text .entry)) (now (cells .exit)) r ≡ onto at (now (cells .entry)) (rowLine w) (drop (from .at) (now (text .entry))) ⌝ }
 {
-    let Step::To(first) = from.bytes(text, b"row=") else {
-        return Step::Malformed;
+    let BytesRead::To(first) = from.bytes(text, b"row=") else {
+        return BytesRead::Malformed;
     };
-    let Step::To(last) = read_cells(text, first, w, at, cells) else {
-        return Step::Malformed;
+    let BytesRead::To(last) = read_cells(text, first, w, at, cells) else {
+        return BytesRead::Malformed;
     };
-    let Step::To(next) = last.bytes(text, b"\n") else {
-        return Step::Malformed;
+    let BytesRead::To(next) = last.bytes(text, b"\n") else {
+        return BytesRead::Malformed;
     };
-    Step::To(next)
+    BytesRead::To(next)
 }
 
 // All rows, into the front of the cells.
-fn read_rows(text: &[u8], from: Cursor, h: usize, w: usize, cells: &mut [i32]) -> Step
+fn read_rows(text: &[u8], from: Cursor, h: usize, w: usize, cells: &mut [i32]) -> BytesRead
     requires { ⌜ h * w ≤ length (now cells) ⌝ }
-    ensures { λ r. ⌜ steppedTo (now (text .entry)) (now (cells .exit)) r ≡ onto 0 (now (cells .entry)) (rows h w) (drop (from .at) (now (text .entry))) ⌝ }
+    ensures { λ r. ⌜ gotListBytes (now (text .entry)) (now (cells .exit)) r ≡ onto 0 (now (cells .entry)) (rowLines h w) (drop (from .at) (now (text .entry))) ⌝ }
 {
     let mut to = from;
     let mut y = 0;
     while y < h {
         let at = y * w;
-        let Step::To(next) = read_row(text, to, w, at, cells) else {
-            return Step::Malformed;
+        let BytesRead::To(next) = read_row(text, to, w, at, cells) else {
+            return BytesRead::Malformed;
         };
         to = next;
         y += 1;
     }
-    Step::To(to)
+    BytesRead::To(to)
 }
 
 // The lines after the head's.
@@ -125,22 +125,22 @@ fn read_lists(
     cells: &mut [i32],
 ) -> HeadRead
     requires { ⌜ (3 * (h .colours) ≤ length (now palette)) × ((h .height) * (h .width) ≤ length (now cells)) ⌝ }
-    ensures { λ r. ⌜ filed (now (text .entry)) (now (palette .exit)) (now (cells .exit)) r ≡ lent (now (palette .entry)) (now (cells .entry)) (lists h (drop (from .at) (now (text .entry)))) ⌝ }
+    ensures { λ r. ⌜ gotFile (now (text .entry)) (now (palette .exit)) (now (cells .exit)) r ≡ lent (now (palette .entry)) (now (cells .entry)) (lists h (drop (from .at) (now (text .entry)))) ⌝ }
 {
     match read_colours(text, from, h.colours, palette) {
-        Reading::To(to) => {
-            let Step::To(end) = read_rows(text, to, h.height, h.width, cells) else {
+        ListRead::To(to) => {
+            let BytesRead::To(end) = read_rows(text, to, h.height, h.width, cells) else {
                 return HeadRead::Refused(10);
             };
             HeadRead::Value(h, end)
         }
-        Reading::Refused(n) => HeadRead::Refused(n),
+        ListRead::Refused(n) => HeadRead::Refused(n),
     }
 }
 
 fn read_file(text: &[u8], palette: &mut [f64], cells: &mut [i32]) -> HeadRead
     requires { ⌜ (768 ≤ length (now palette)) × (1600 ≤ length (now cells)) ⌝ }
-    ensures { λ r. ⌜ filed (now (text .entry)) (now (palette .exit)) (now (cells .exit)) r ≡ lent (now (palette .entry)) (now (cells .entry)) (file (now (text .entry))) ⌝ }
+    ensures { λ r. ⌜ gotFile (now (text .entry)) (now (palette .exit)) (now (cells .exit)) r ≡ lent (now (palette .entry)) (now (cells .entry)) (file (now (text .entry))) ⌝ }
 {
     let start = Cursor { at: 0 };
     match start.head(text) {
@@ -151,7 +151,7 @@ fn read_file(text: &[u8], palette: &mut [f64], cells: &mut [i32]) -> HeadRead
 
 // The first 65,536 bytes of a text.
 fn limited(text: &[u8]) -> &[u8]
-    ensures { λ r. ⌜ now r ≡ take most (now (text .entry)) ⌝ }
+    ensures { λ r. ⌜ now r ≡ take maxBytes (now (text .entry)) ⌝ }
 {
     if text.len() > 65536 {
         &text[..65536]
@@ -163,7 +163,7 @@ fn limited(text: &[u8]) -> &[u8]
 // The whole text: nothing may follow the last row.
 fn read_text(text: &[u8], palette: &mut [f64], cells: &mut [i32]) -> Parsed
     requires { ⌜ (768 ≤ length (now palette)) × (1600 ≤ length (now cells)) ⌝ }
-    ensures { λ r. ⌜ parsed (now (palette .exit)) (now (cells .exit)) r ≡ lent (now (palette .entry)) (now (cells .entry)) (parse (now (text .entry))) ⌝ }
+    ensures { λ r. ⌜ gotSheet (now (palette .exit)) (now (cells .exit)) r ≡ lent (now (palette .entry)) (now (cells .entry)) (parse (now (text .entry))) ⌝ }
 {
     let part = limited(text);
     match read_file(part, palette, cells) {
@@ -188,8 +188,8 @@ struct Counts {
 
 // The counts that an answer tells: none after a refusal.
 fn counts_of(answer: Parsed) -> Counts
-    requires { ⌜ (doublesOf answer ≤ 768) × (cellsOf answer ≤ 1600) ⌝ }
-    ensures { λ r. ⌜ (r .doubles ≡ doublesOf answer) × (r .cells ≡ cellsOf answer) ⌝ }
+    requires { ⌜ (doublesRead answer ≤ 768) × (cellsRead answer ≤ 1600) ⌝ }
+    ensures { λ r. ⌜ (r .doubles ≡ doublesRead answer) × (r .cells ≡ cellsRead answer) ⌝ }
 {
     match answer {
         Parsed::Sheet(h) => {

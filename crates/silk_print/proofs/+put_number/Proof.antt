@@ -65,7 +65,9 @@ put-number-returns : (t : ℕ) → put-number-lts.Need-returns (
   put-number-below t,
   put-number.Post,
 ) (put-number-at t) put-number.Post
-put-number-returns t c = number-one (c .before .before .before .before .before .if1 .taken) (c .before .before .before .digit .ensures) (c .before .before .put-byte .ensures)
+put-number-returns t c =
+    let digit = c .before .before .before in
+    number-one (digit .before .before .if1 .taken) (digit .digit .ensures) (c .before .before .put-byte .ensures)
 
 put-number-put-number-requires : (t : ℕ) → put-number-lts.Need-put-number-requires (
   digit-reads.Asked,
@@ -85,7 +87,9 @@ put-number-digit-requires-2 : (t : ℕ) → put-number-lts.Need-digit-requires-2
   put-number-below t,
   put-number.Post,
 ) (put-number-at t) put-number.Post
-put-number-digit-requires-2 t c κs = mod-lt (c .before .before .before .before .before .before .before .args .n) (omega arith)
+put-number-digit-requires-2 t c κs =
+    let number = c .before .before .before in
+    mod-lt (number .before .before .before .before .args .n) (omega arith)
 
 put-number-put-byte-requires-2 : (t : ℕ) → put-number-lts.Need-put-byte-requires-2 (
   digit-reads.Asked,
@@ -95,7 +99,10 @@ put-number-put-byte-requires-2 : (t : ℕ) → put-number-lts.Need-put-byte-requ
   put-number-below t,
   put-number.Post,
 ) (put-number-at t) put-number.Post
-put-number-put-byte-requires-2 t c κs = omega (arith, put-room (c .before .before .before .before .put-number .ensures) 1 (omega (arith, more-length (c .before .before .before .before .before .before .before .before .args .n) (c .before .before .before .before .before .before .if1 .left), c .before .before .before .before .before .before .before .before .pre .1)))
+put-number-put-byte-requires-2 t c κs =
+    let number = c .before .before .before .before in
+    let start = number .before .before .before .before in
+    omega (arith, put-room (number .put-number .ensures) 1 (omega (arith, more-length (start .args .n) (number .before .before .if1 .left), start .pre .1)))
 
 put-number-same-length-2 : (t : ℕ) → put-number-lts.Need-same-length-2 (
   digit-reads.Asked,
@@ -105,7 +112,9 @@ put-number-same-length-2 : (t : ℕ) → put-number-lts.Need-same-length-2 (
   put-number-below t,
   put-number.Post,
 ) (put-number-at t) put-number.Post
-put-number-same-length-2 t c = c .before .before .put-byte2 .kept .0 ∙ c .before .before .before .before .before .before .before .put-number .kept .0
+put-number-same-length-2 t c =
+    let digit = c .before .before .before in
+    c .before .before .put-byte2 .kept .0 ∙ digit .before .before .before .before .put-number .kept .0
 
 put-number-returns-2 : (t : ℕ) → put-number-lts.Need-returns-2 (
   digit-reads.Asked,
@@ -115,7 +124,10 @@ put-number-returns-2 : (t : ℕ) → put-number-lts.Need-returns-2 (
   put-number-below t,
   put-number.Post,
 ) (put-number-at t) put-number.Post
-put-number-returns-2 t c = number-more (c .before .before .before .before .before .before .before .before .before .if1 .left) (c .before .before .before .before .before .before .before .put-number .ensures) (c .before .before .before .digit2 .ensures) (c .before .before .put-byte2 .ensures) (c .before .before .before .before .before .before .before .before .before .before .before .pre .1)
+put-number-returns-2 t c =
+    let digit = c .before .before .before in
+    let number = digit .before .before .before .before in
+    number-more (number .before .before .if1 .left) (number .put-number .ensures) (digit .digit2 .ensures) (c .before .before .put-byte2 .ensures) (number .before .before .before .before .pre .1)
 
 pub +put-number-spec : {M : Type 1} → statement M
 +put-number-spec = close μ-put-number λ t. put-number-lts.spec (

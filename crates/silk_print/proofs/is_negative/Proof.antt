@@ -3,7 +3,7 @@ use mathlib.Core.Path.{ap, _∙_}
 use lib.IntN.{ℤ, pos}
 use lib.Signed.{ltZ}
 use mir.Facts.{toZ-ofZ}
-use Rattle.cursor.proofs.Signs.{sign-is}
+use Rattle.silk_reader.proofs.Signs.{sign-is}
 use Rattle.silk_print.proofs.is_negative.Statement.{statement}
 use Rattle.silk_print.proofs.is_negative.Tie as tie
 

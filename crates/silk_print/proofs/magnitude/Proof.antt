@@ -1,7 +1,7 @@
 -- `magnitude` meets its contract. Assumes nothing.
 use mathlib.Core.Path.{ap, _∙_}
 use lib.IntN.{natAbs}
-use Rattle.cursor.proofs.Signs.{wide-fits, wide-is, flip-fits, flip-is, flip-size, size-fits, flip-sign, keep-sign}
+use Rattle.silk_reader.proofs.Signs.{wide-fits, wide-is, flip-fits, flip-is, flip-size, size-fits, flip-sign, keep-sign}
 use Rattle.silk_print.proofs.magnitude.Statement.{statement}
 use Rattle.silk_print.proofs.magnitude.Tie as tie
 

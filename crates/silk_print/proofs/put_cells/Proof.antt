@@ -29,7 +29,9 @@ shared-slice-copy-out-put-cell : tie.Need-shared-slice-copy-out-put-cell Inv-loo
 shared-slice-copy-out-put-cell c = omega arith
 
 put-cell-requires : tie.Need-put-cell-requires Inv-loop μ-loop
-put-cell-requires c κs = printing-room (c .before .before .before .loop .inv) (c .before .before .loop-test .taken) (c .before .before .before .before .before .pre .1)
+put-cell-requires c κs =
+    let loop = c .before .before .before in
+    printing-room (loop .loop .inv) (c .before .before .loop-test .taken) (loop .before .before .pre .1)
 
 add-x : tie.Need-add-x Inv-loop μ-loop
 add-x c = omega arith
@@ -39,9 +41,11 @@ loop-less c = omega arith
 
 loop-again : tie.Need-loop-again Inv-loop μ-loop
 loop-again c =
-    let s = c .before .before .before .before .before .before .before .before in
-    let fits = toZ-ofZ {w = w32} {z = getD (s .args .cells .now) (s .args .from + c .before .before .before .before .before .before .loop .x) (pos 0)} (record { sfits = c .before .before .before .put-cell-arg2 .given }) in
-    printing-more (c .before .before .before .before .before .before .loop .inv) (c .before .before .before .before .before .loop-test .taken) (s .pre .1) (rw fits at (c .before .before .put-cell .ensures))
+    let cell-arg2 = c .before .before .before in
+    let loop = cell-arg2 .before .before .before in
+    let s = loop .before .before in
+    let fits = toZ-ofZ {w = w32} {z = getD (s .args .cells .now) (s .args .from + loop .loop .x) (pos 0)} (record { sfits = cell-arg2 .put-cell-arg2 .given }) in
+    printing-more (loop .loop .inv) (cell-arg2 .before .before .loop-test .taken) (s .pre .1) (rw fits at (c .before .before .put-cell .ensures))
 
 same-length : tie.Need-same-length Inv-loop μ-loop
 same-length c = c .before .loop .inv .kept

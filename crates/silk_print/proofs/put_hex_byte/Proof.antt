@@ -23,7 +23,10 @@ same-length c = search needs
 
 returns : tie.Need-returns
 unfolding hexByte
-returns c = rw (← c .before .before .before .before .before .before .before .before .hex-digit .ensures, ← c .before .before .before .hex-digit2 .ensures) (put-both (c .before .before .before .before .before .before .before .put-byte .ensures) (c .before .before .put-byte2 .ensures) (omega arith))
+returns c =
+    let hex-digit2 = c .before .before .before in
+    let byte = hex-digit2 .before .before .before .before in
+    rw (← byte .before .hex-digit .ensures, ← hex-digit2 .hex-digit2 .ensures) (put-both (byte .put-byte .ensures) (c .before .before .put-byte2 .ensures) (omega arith))
 
 pub put-hex-byte-spec : {M : Type 1} → statement M
 put-hex-byte-spec = tie.close (tie.spec hex-digit-requires put-byte-requires hex-digit-requires-2 put-byte-requires-2 same-length returns)

@@ -2,7 +2,7 @@
 use borrow.Author.Needs.{needs}
 use native.Mathlib.Omega.{arith}
 use mathlib.Core.Path.{refl}
-use Rattle.cursor.specs.Reader.{codes}
+use Rattle.silk_reader.specs.Reader.{codes}
 use Rattle.silk_print.specs.Print.{indexText}
 use Rattle.silk_print.proofs.Printing.{put-as}
 use Rattle.silk_print.proofs.put_index.Statement.{statement}
@@ -34,14 +34,18 @@ same-length c = search needs
 
 returns : tie.Need-returns
 unfolding indexText codes
-returns c = rw (c .before .before .before .before .before .enum-told .given .1) (put-as (c .before .before .put-bytes .ensures) refl (omega arith))
+returns c =
+    let bytes = c .before .before in
+    rw (bytes .before .before .before .enum-told .given .1) (put-as (bytes .put-bytes .ensures) refl (omega arith))
 
 same-length-2 : tie.Need-same-length-2
 same-length-2 c = search needs
 
 returns-2 : tie.Need-returns-2
 unfolding indexText codes
-returns-2 c = rw (c .before .before .before .before .before .before .index .given .1) (c .before .before .put-number-line .ensures)
+returns-2 c =
+    let number-line = c .before .before in
+    rw (number-line .before .before .before .before .index .given .1) (number-line .put-number-line .ensures)
 
 pub put-index-spec : {M : Type 1} → statement M
 put-index-spec = tie.close (tie.spec enum-told slice-aggregate-put-bytes put-bytes-requires enum-known-index slice-aggregate-put-number-line cast-put-number-line put-number-line-requires same-length returns same-length-2 returns-2)

@@ -21,7 +21,10 @@ same-length : tie.Need-same-length
 same-length c = search needs
 
 returns : tie.Need-returns
-returns c = put-as (number-one {n = c .before .before .before .before .before .before .args .n} (omega arith) refl (c .before .before .put-byte .ensures)) refl (omega (arith, ap length (numeral-one (c .before .before .before .before .before .before .args .n) (omega arith))))
+returns c =
+    let byte = c .before .before in
+    let start = byte .before .before .before .before in
+    put-as (number-one {n = start .args .n} (omega arith) refl (byte .put-byte .ensures)) refl (omega (arith, ap length (numeral-one (start .args .n) (omega arith))))
 
 same-length-2 : tie.Need-same-length-2
 same-length-2 c = search needs

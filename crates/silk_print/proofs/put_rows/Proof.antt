@@ -17,10 +17,14 @@ loop-holds : tie.Need-loop-holds Inv-loop μ-loop
 loop-holds c = printing-none _ _ _ _ _
 
 mul-from : tie.Need-mul-from Inv-loop μ-loop
-mul-from c = omega (arith, row-fits (c .before .before .before .args .h) (c .before .before .before .args .w) _ (c .before .loop .y) (c .before .before .before .pre .0) (c .loop-test .taken))
+mul-from c =
+    let start = c .before .before .before in
+    omega (arith, row-fits (start .args .h) (start .args .w) _ (c .before .loop .y) (start .pre .0) (c .loop-test .taken))
 
 put-row-requires : tie.Need-put-row-requires Inv-loop μ-loop
-put-row-requires c κs = (row-fits (c .before .before .before .before .args .h) (c .before .before .before .before .args .w) _ (c .before .before .loop .y) (c .before .before .before .before .pre .0) (c .before .loop-test .taken), printing-room (c .before .before .loop .inv) (c .before .loop-test .taken) (c .before .before .before .before .pre .1))
+put-row-requires c κs =
+    let loop = c .before .before in
+    (row-fits (loop .before .before .args .h) (loop .before .before .args .w) _ (loop .loop .y) (loop .before .before .pre .0) (c .before .loop-test .taken), printing-room (loop .loop .inv) (c .before .loop-test .taken) (loop .before .before .pre .1))
 
 add-y : tie.Need-add-y Inv-loop μ-loop
 add-y c = omega arith
@@ -29,7 +33,11 @@ loop-less : tie.Need-loop-less Inv-loop μ-loop
 loop-less c = omega arith
 
 loop-again : tie.Need-loop-again Inv-loop μ-loop
-loop-again c = printing-more (c .before .before .before .before .before .loop .inv) (c .before .before .before .before .loop-test .taken) (c .before .before .before .before .before .before .before .pre .1) (c .before .before .put-row .ensures)
+loop-again c =
+    let row = c .before .before in
+    let turn = row .before .before in
+    let loop = turn .before in
+    printing-more (loop .loop .inv) (turn .loop-test .taken) (loop .before .before .pre .1) (row .put-row .ensures)
 
 same-length : tie.Need-same-length Inv-loop μ-loop
 same-length c = c .before .loop .inv .kept

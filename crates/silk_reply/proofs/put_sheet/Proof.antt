@@ -25,13 +25,15 @@ put-refusal-requires c κs = search needs
 
 returns : tie.Need-returns
 returns c =
-    let ran = c .before .before .before .before .before .before .before .before .before .before .run-sheet .ensures in
+    let told = c .before .before .before .before .before .before .before .before in
+    let ran = told .before .before .run-sheet .ensures in
     let printing = c .before .print-result .ensures in
-    sheet-put ran (c .before .before .before .before .before .before .before .before .facts .given .1) (omega arith) (printing .0) (printing .1) (c .count .ensures)
+    sheet-put _ _ _ ran (told .facts .given .1) (omega arith) (printing .0) (printing .1) (c .count .ensures)
 
 returns-2 : tie.Need-returns-2
 returns-2 c =
-    rw (sheet-refused (c .before .before .before .before .before .run-sheet .ensures) (c .before .before .before .n .given .1)) (c .put-refusal .ensures)
+    let told = c .before .before .before in
+    rw (sheet-refused _ _ _ (told .before .before .run-sheet .ensures) (told .n .given .1)) (c .put-refusal .ensures)
 
 pub put-sheet-spec : {M : Type 1} → statement M
 put-sheet-spec =

@@ -17,6 +17,10 @@ handing c =
     let sized = c .before .before .before in
     handed _ _ _ _ _ (sized .before .if1 .left) (sized .if2 .left) (c .read-text .ensures)
 
+-- where the doubles are copied, seen from where the cells are to be
+abbrev copied : tie.After-copy-cells-arg → tie.After-copy-doubles
+copied c = c .before .before .before .before
+
 returns : tie.Need-returns
 returns c = let l = narrow _ _ _ (c .if1 .taken) in (l .answers, (l .colours, l .sheet))
 
@@ -25,7 +29,7 @@ returns-2 c = let l = short _ _ _ (c .before .if1 .left) (c .if2 .taken) in (l .
 
 returns-3 : tie.Need-returns-3
 returns-3 c =
-    let doubles = c .before .before .before .before .before .before in
+    let doubles = copied (c .before .before) in
     let counts = doubles .before .before .before in
     let told = counts .counts-of .ensures in
     let l = handed-left (handing (counts .before .before .before)) (told .0) (told .1) (doubles .copy-doubles .ensures) (c .before .copy-cells .ensures) in
@@ -57,7 +61,7 @@ slice-aggregate-copy-cells c = search needs
 
 copy-cells-requires : tie.Need-copy-cells-requires
 copy-cells-requires c κs =
-    let counts = c .before .before .before .before .before .before .before in
+    let counts = copied c .before .before .before in
     let h = handing (counts .before .before .before) in
     (omega (arith, counts .counts-of .ensures .1, h .held), omega (arith, counts .counts-of .ensures .1, h .held))
 

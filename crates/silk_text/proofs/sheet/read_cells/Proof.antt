@@ -5,10 +5,10 @@ use mathlib.Core.Path.{refl}
 use mathlib.Core.List.{[], _∷_}
 use native.Mathlib.Omega.{arith}
 use lib.ListN.{drop}
-use Rattle.cursor.specs.Reader.{chain, _>>=_, give, cellAt}
-use Rattle.cursor.specs.Answers.{celled}
-use Rattle.silk_text.specs.Answers.{onto, steppedTo}
-use Rattle.cursor.proofs.Chaining.{known}
+use Rattle.silk_reader.specs.Reader.{chain, _>>=_, give, cellAt}
+use Rattle.silk_reader.specs.Answers.{gotCell}
+use Rattle.silk_text.specs.Answers.{onto, gotListBytes}
+use Rattle.silk_reader.proofs.Chaining.{known}
 use Rattle.silk_text.proofs.Repeating.{Going, going-none, going-more, going-refused, going-all, singles}
 use Rattle.silk_text.proofs.Laying.{laid-one}
 use mir.Syntax.{w32}
@@ -40,10 +40,10 @@ same-length : tie.Need-same-length Inv-loop μ-loop
 same-length c = c .before .before .before .before .loop .inv .kept
 
 returns : tie.Need-returns Inv-loop μ-loop
-unfolding onto steppedTo celled _>>=_ chain
+unfolding onto gotListBytes gotCell _>>=_ chain
 returns c =
     let at = c .before .before .before in
-    rw (going-refused 1 _ _ (at .before .loop .inv) (at .loop-test .taken) (known (celled _) (c .before .before .cell-at .ensures) (c .enum-told .given .1)))
+    rw (going-refused 1 _ _ (at .before .loop .inv) (at .loop-test .taken) (known (gotCell _) (c .before .before .cell-at .ensures) (c .enum-told .given .1)))
 
 add-place : tie.Need-add-place Inv-loop μ-loop
 add-place c = omega arith
@@ -61,18 +61,19 @@ loop-less : tie.Need-loop-less Inv-loop μ-loop
 loop-less c = omega arith
 
 loop-again : tie.Need-loop-again Inv-loop μ-loop
-unfolding celled
+unfolding gotCell
 loop-again c =
-    let at = c .before .before .before .before in
+    let cell-at = c .before .before .before in
+    let at = cell-at .before in
     let g = at .before .loop .inv in
     let fits : SFits w32 (c .before .c .given .0 .0) = record { sfits = c .known-told .given .0 .1 } in
-    going-more 1 _ _ g (at .loop-test .taken) (known (celled _) (c .before .before .before .cell-at .ensures) (c .before .c .given .1)) refl (omega arith) {place = at .before .before .before .args .at + at .before .loop .x} (rw (toZ-ofZ fits) (laid-one _ _ _ (omega (arith, g .kept)))) (omega arith)
+    going-more 1 _ _ g (at .loop-test .taken) (known (gotCell _) (cell-at .cell-at .ensures) (c .before .c .given .1)) refl (omega arith) {place = at .before .before .before .args .at + at .before .loop .x} (rw (toZ-ofZ fits) (laid-one _ _ _ (omega (arith, g .kept)))) (omega arith)
 
 same-length-2 : tie.Need-same-length-2 Inv-loop μ-loop
 same-length-2 c = c .before .loop .inv .kept
 
 returns-2 : tie.Need-returns-2 Inv-loop μ-loop
-unfolding onto steppedTo celled _>>=_ chain give
+unfolding onto gotListBytes gotCell _>>=_ chain give
 returns-2 c =
     let g = c .before .loop .inv in
     rw (going-all 1 _ _ g (c .loop-test .left), ← singles (g .read), ← g .list)

@@ -4,12 +4,12 @@ use Prim.Native.Nat.{_-_}
 use mathlib.Core.Path.{refl}
 use native.Mathlib.Omega.{arith}
 use lib.ListN.{drop}
-use Rattle.cursor.specs.Reader.{chain, _>>=_, give}
-use Rattle.cursor.specs.Lines.{colourLine}
-use Rattle.silk_text.specs.Format.{doubles, colours}
-use Rattle.cursor.specs.Answers.{coloured}
-use Rattle.silk_text.specs.Answers.{onto, filledTo}
-use Rattle.cursor.proofs.Chaining.{known}
+use Rattle.silk_reader.specs.Reader.{chain, _>>=_, give}
+use Rattle.silk_reader.specs.Lines.{colourLine}
+use Rattle.silk_text.specs.Format.{doubles, colourLines}
+use Rattle.silk_reader.specs.Answers.{gotColour}
+use Rattle.silk_text.specs.Answers.{onto, gotList}
+use Rattle.silk_reader.proofs.Chaining.{known}
 use Rattle.silk_text.proofs.Repeating.{Going, going-none, going-more, going-refused, going-all}
 use Rattle.silk_text.proofs.sheet.read_colours.Statement.{statement}
 use Rattle.silk_text.proofs.sheet.read_colours.Tie as tie
@@ -48,10 +48,11 @@ same-length : tie.Need-same-length Inv-loop μ-loop
 same-length c = c .before .before .before .before .before .loop .inv .kept
 
 returns : tie.Need-returns Inv-loop μ-loop
-unfolding colours onto filledTo coloured _>>=_ chain
+unfolding colourLines onto gotList gotColour _>>=_ chain
 returns c =
-    let at = c .before .before .before .before in
-    rw (going-refused 3 _ 0 (at .before .loop .inv) (at .loop-test .taken) (known (coloured _) (c .before .before .before .colour-line .ensures) (c .before .n .given .1)))
+    let colour-line = c .before .before .before in
+    let at = colour-line .before in
+    rw (going-refused 3 _ 0 (at .before .loop .inv) (at .loop-test .taken) (known (gotColour _) (colour-line .colour-line .ensures) (c .before .n .given .1)))
 
 add-i : tie.Need-add-i Inv-loop μ-loop
 add-i c = omega arith
@@ -60,18 +61,19 @@ loop-less : tie.Need-loop-less Inv-loop μ-loop
 loop-less c = omega arith
 
 loop-again : tie.Need-loop-again Inv-loop μ-loop
-unfolding coloured doubles
+unfolding gotColour doubles
 loop-again c =
-    let told = c .before .before .before .before .before .before in
+    let colour = c .before .before in
+    let told = colour .before .before .before .before in
     let line = told .before .before in
     let at = line .before in
-    going-more 3 _ 0 (at .before .loop .inv) (at .loop-test .taken) (known (coloured _) (line .colour-line .ensures) (told .c .given .1)) refl (omega arith) (c .before .before .put-colour .ensures) (omega arith)
+    going-more 3 _ 0 (at .before .loop .inv) (at .loop-test .taken) (known (gotColour _) (line .colour-line .ensures) (told .c .given .1)) refl (omega arith) (colour .put-colour .ensures) (omega arith)
 
 same-length-2 : tie.Need-same-length-2 Inv-loop μ-loop
 same-length-2 c = c .before .loop .inv .kept
 
 returns-2 : tie.Need-returns-2 Inv-loop μ-loop
-unfolding colours onto filledTo coloured _>>=_ chain give
+unfolding colourLines onto gotList gotColour _>>=_ chain give
 returns-2 c =
     let g = c .before .loop .inv in
     rw (going-all 3 _ 0 g (c .loop-test .left), ← g .list)

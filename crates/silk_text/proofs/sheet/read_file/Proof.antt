@@ -2,11 +2,11 @@
 use borrow.Author.Needs.{needs}
 use mathlib.Core.Path.{sym}
 use native.Mathlib.Omega.{arith}
-use Rattle.cursor.specs.Reader.{chain, _>>=_}
+use Rattle.silk_reader.specs.Reader.{chain, _>>=_}
 use Rattle.silk_text.specs.Format.{file}
-use Rattle.cursor.specs.Answers.{headed}
-use Rattle.silk_text.specs.Answers.{filed}
-use Rattle.cursor.proofs.Chaining.{known}
+use Rattle.silk_reader.specs.Answers.{gotHead}
+use Rattle.silk_text.specs.Answers.{gotFile}
+use Rattle.silk_reader.proofs.Chaining.{known}
 use Rattle.silk_text.proofs.Whole.{head-is, area, lent-no}
 use Rattle.silk_text.proofs.sheet.read_file.Statement.{statement}
 use Rattle.silk_text.proofs.sheet.read_file.Tie as tie
@@ -18,9 +18,10 @@ enum-known-h : tie.Need-enum-known-h
 enum-known-h c = search needs
 
 read-lists-requires : tie.Need-read-lists-requires
-unfolding headed
+unfolding gotHead
 read-lists-requires c κs =
-    let b = head-is _ (known (headed _) (c .before .before .before .before .before .head .ensures) (c .before .before .before .h .given .1)) in
+    let at-h = c .before .before .before in
+    let b = head-is _ (known (gotHead _) (at-h .before .before .head .ensures) (at-h .h .given .1)) in
     (omega (arith, b .entries), omega (arith, area b))
 
 enum-known-n : tie.Need-enum-known-n
@@ -33,15 +34,15 @@ same-length-2 : tie.Need-same-length-2
 same-length-2 c = search needs
 
 returns : tie.Need-returns
-unfolding headed file _>>=_ chain
+unfolding gotHead file _>>=_ chain
 returns c =
     let lists = c .before .before .before in
     let h = lists .before .before .before in
-    rw (known (headed _) (h .before .before .before .head .ensures) (h .before .h .given .1)) (lists .read-lists .ensures)
+    rw (known (gotHead _) (h .before .before .before .head .ensures) (h .before .h .given .1)) (lists .read-lists .ensures)
 
 returns-2 : tie.Need-returns-2
-unfolding headed filed file _>>=_ chain
-returns-2 c = sym (lent-no _ _ (rw (known (headed _) (c .before .before .before .head .ensures) (c .before .n .given .1))))
+unfolding gotHead gotFile file _>>=_ chain
+returns-2 c = sym (lent-no _ _ (rw (known (gotHead _) (c .before .before .before .head .ensures) (c .before .n .given .1))))
 
 pub read-file-spec : {M : Type 1} → statement M
 read-file-spec =

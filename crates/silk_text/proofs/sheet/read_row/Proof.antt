@@ -2,11 +2,11 @@
 use borrow.Author.Needs.{needs}
 use mathlib.Core.Path.{sym}
 use native.Mathlib.Omega.{arith}
-use Rattle.cursor.specs.Reader.{newline, codes}
+use Rattle.silk_reader.specs.Reader.{newline, codes}
 use Rattle.silk_text.specs.Format.{rowLine}
-use Rattle.cursor.specs.Answers.{stepped}
-use Rattle.silk_text.specs.Answers.{steppedTo}
-use Rattle.cursor.proofs.Chaining.{known, line-no-key, line-no-value, line-no-end, line-yes}
+use Rattle.silk_reader.specs.Answers.{gotBytes}
+use Rattle.silk_text.specs.Answers.{gotListBytes}
+use Rattle.silk_reader.proofs.Chaining.{known, line-no-key, line-no-value, line-no-end, line-yes}
 use Rattle.silk_text.proofs.Laying.{onto-got, onto-no, onto-yes, onto-not}
 use Rattle.silk_text.proofs.sheet.read_row.Statement.{statement}
 use Rattle.silk_text.proofs.sheet.read_row.Tie as tie
@@ -24,8 +24,8 @@ enum-told : tie.Need-enum-told
 enum-told c = search needs
 
 returns : tie.Need-returns
-unfolding rowLine stepped codes steppedTo
-returns c = sym (onto-not _ _ _ _ (line-no-key _ _ _ (known (stepped _) (c .before .before .bytes .ensures) (c .enum-told .given .1))))
+unfolding rowLine gotBytes codes gotListBytes
+returns c = sym (onto-not _ _ _ _ (line-no-key _ _ _ (known (gotBytes _) (c .before .before .bytes .ensures) (c .enum-told .given .1))))
 
 read-cells-requires : tie.Need-read-cells-requires
 read-cells-requires c κs = omega arith
@@ -40,11 +40,11 @@ same-length : tie.Need-same-length
 same-length c = search needs
 
 returns-2 : tie.Need-returns-2
-unfolding rowLine stepped codes steppedTo
+unfolding rowLine gotBytes codes gotListBytes
 returns-2 c =
     let cells = c .before .before .before in
     let first = cells .before .before in
-    sym (onto-not _ _ _ _ (line-no-value _ _ _ (known (stepped _) (first .before .before .before .bytes .ensures) (first .before .first .given .1)) (onto-no _ _ _ _ (known (steppedTo _ _) (cells .read-cells .ensures) (c .enum-told2 .given .1)))))
+    sym (onto-not _ _ _ _ (line-no-value _ _ _ (known (gotBytes _) (first .before .before .before .bytes .ensures) (first .before .first .given .1)) (onto-no _ _ _ _ (known (gotListBytes _ _) (cells .read-cells .ensures) (c .enum-told2 .given .1)))))
 
 slice-aggregate-bytes-2 : tie.Need-slice-aggregate-bytes-2
 slice-aggregate-bytes-2 c = search needs
@@ -62,25 +62,27 @@ same-length-2 : tie.Need-same-length-2
 same-length-2 c = search needs
 
 returns-3 : tie.Need-returns-3
-unfolding rowLine stepped codes steppedTo newline
+unfolding rowLine gotBytes codes gotListBytes newline
 returns-3 c =
-    let last = c .before .before .before .before in
+    let bytes2 = c .before .before in
+    let last = bytes2 .before .before in
     let cells = last .before .before .before .before in
     let first = cells .before .before in
-    let l = (onto-got _ _ _ _ (known (steppedTo _ _) (cells .read-cells .ensures) (last .before .last .given .1))) in
-    sym (onto-not _ _ _ _ (line-no-end _ _ _ (known (stepped _) (first .before .before .before .bytes .ensures) (first .before .first .given .1)) (l .read) (known (stepped _) (c .before .before .bytes2 .ensures) (c .enum-told3 .given .1))))
+    let l = (onto-got _ _ _ _ (known (gotListBytes _ _) (cells .read-cells .ensures) (last .before .last .given .1))) in
+    sym (onto-not _ _ _ _ (line-no-end _ _ _ (known (gotBytes _) (first .before .before .before .bytes .ensures) (first .before .first .given .1)) (l .read) (known (gotBytes _) (bytes2 .bytes2 .ensures) (c .enum-told3 .given .1))))
 
 same-length-3 : tie.Need-same-length-3
 same-length-3 c = search needs
 
 returns-4 : tie.Need-returns-4
-unfolding rowLine stepped codes steppedTo newline
+unfolding rowLine gotBytes codes gotListBytes newline
 returns-4 c =
-    let last = c .before .before .before .before .before in
+    let bytes2 = c .before .before .before in
+    let last = bytes2 .before .before in
     let cells = last .before .before .before .before in
     let first = cells .before .before in
-    let l = (onto-got _ _ _ _ (known (steppedTo _ _) (cells .read-cells .ensures) (last .before .last .given .1))) in
-    sym (onto-yes _ _ _ _ (line-yes _ _ _ (known (stepped _) (first .before .before .before .bytes .ensures) (first .before .first .given .1)) (l .read) (known (stepped _) (c .before .before .before .bytes2 .ensures) (c .before .next .given .1))) (l .list))
+    let l = (onto-got _ _ _ _ (known (gotListBytes _ _) (cells .read-cells .ensures) (last .before .last .given .1))) in
+    sym (onto-yes _ _ _ _ (line-yes _ _ _ (known (gotBytes _) (first .before .before .before .bytes .ensures) (first .before .first .given .1)) (l .read) (known (gotBytes _) (bytes2 .bytes2 .ensures) (c .before .next .given .1))) (l .list))
 
 pub read-row-spec : {M : Type 1} → statement M
 read-row-spec =

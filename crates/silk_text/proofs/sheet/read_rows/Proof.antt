@@ -5,10 +5,10 @@ use mathlib.Core.Path.{sym, _∙_}
 use native.Mathlib.Nat.{zero-add}
 use native.Mathlib.Omega.{arith}
 use lib.ListN.{drop}
-use Rattle.cursor.specs.Reader.{chain, _>>=_, give}
-use Rattle.silk_text.specs.Format.{rowLine, rows}
-use Rattle.silk_text.specs.Answers.{steppedTo}
-use Rattle.cursor.proofs.Chaining.{known}
+use Rattle.silk_reader.specs.Reader.{chain, _>>=_, give}
+use Rattle.silk_text.specs.Format.{rowLine, rowLines}
+use Rattle.silk_text.specs.Answers.{gotListBytes}
+use Rattle.silk_reader.proofs.Chaining.{known}
 use Rattle.silk_text.proofs.Repeating.{Going, going-none, going-more, going-refused, going-all}
 use Rattle.silk_text.proofs.Laying.{onto-got, onto-no, onto-yes, onto-not}
 use Rattle.silk_text.proofs.Whole.{row-length, row-end, row-fits}
@@ -27,15 +27,17 @@ loop-holds c = going-none _ _ 0
 
 mul-at : tie.Need-mul-at Inv-loop μ-loop
 mul-at c =
-    let a = c .before .before .before .args in
-    let f = row-fits (a .h) (a .w) _ (c .before .loop .y) (c .before .before .before .pre) (c .loop-test .taken) in
+    let start = c .before .before .before in
+    let a = start .args in
+    let f = row-fits (a .h) (a .w) _ (c .before .loop .y) (start .pre) (c .loop-test .taken) in
     omega arith
 
 read-row-requires : tie.Need-read-row-requires Inv-loop μ-loop
 read-row-requires c κs =
-    let a = c .before .before .before .before .args in
-    let f = row-fits (a .h) (a .w) _ (c .before .before .loop .y) (c .before .before .before .before .pre) (c .before .loop-test .taken) in
-    omega (arith, c .before .before .loop .inv .kept)
+    let loop = c .before .before in
+    let a = loop .before .before .args in
+    let f = row-fits (a .h) (a .w) _ (loop .loop .y) (loop .before .before .pre) (c .before .loop-test .taken) in
+    omega (arith, loop .loop .inv .kept)
 
 enum-known-next : tie.Need-enum-known-next Inv-loop μ-loop
 enum-known-next c = search needs
@@ -44,14 +46,16 @@ enum-told : tie.Need-enum-told Inv-loop μ-loop
 enum-told c = search needs
 
 same-length : tie.Need-same-length Inv-loop μ-loop
-same-length c = c .before .before .before .read-row .kept .1 .1 .1 .1 .0 ∙ c .before .before .before .before .before .before .loop .inv .kept
+same-length c =
+    let read-row = c .before .before .before in
+    read-row .read-row .kept .1 .1 .1 .1 .0 ∙ read-row .before .before .before .loop .inv .kept
 
 returns : tie.Need-returns Inv-loop μ-loop
-unfolding rows steppedTo _>>=_ chain
+unfolding rowLines gotListBytes _>>=_ chain
 returns c =
     let row = c .before .before .before in
     let at = row .before .before in
-    sym (onto-not _ _ _ _ (rw (going-refused _ _ 0 (at .before .loop .inv) (at .loop-test .taken) (onto-no _ _ _ _ (known (steppedTo _ _) (row .read-row .ensures) (c .enum-told .given .1))))))
+    sym (onto-not _ _ _ _ (rw (going-refused _ _ 0 (at .before .loop .inv) (at .loop-test .taken) (onto-no _ _ _ _ (known (gotListBytes _ _) (row .read-row .ensures) (c .enum-told .given .1))))))
 
 add-y : tie.Need-add-y Inv-loop μ-loop
 add-y c = omega arith
@@ -60,19 +64,19 @@ loop-less : tie.Need-loop-less Inv-loop μ-loop
 loop-less c = omega arith
 
 loop-again : tie.Need-loop-again Inv-loop μ-loop
-unfolding steppedTo
+unfolding gotListBytes
 loop-again c =
     let row = c .before .before .before .before in
     let at = row .before .before in
     let s = at .before .before .before in
-    let l = onto-got _ _ _ _ (known (steppedTo _ _) (row .read-row .ensures) (c .before .next .given .1)) in
+    let l = onto-got _ _ _ _ (known (gotListBytes _ _) (row .read-row .ensures) (c .before .next .given .1)) in
     going-more _ _ 0 (at .before .loop .inv) (at .loop-test .taken) (l .read) (row-length _ _ (l .read)) (rw (zero-add ((at .before .loop .y + 1) * s .args .w)) (row-end (s .args .h) (s .args .w) _ (at .before .loop .y) (s .pre) (at .loop-test .taken))) {place = at .before .loop .y * s .args .w} (sym (l .list)) (sym (zero-add _))
 
 same-length-2 : tie.Need-same-length-2 Inv-loop μ-loop
 same-length-2 c = c .before .loop .inv .kept
 
 returns-2 : tie.Need-returns-2 Inv-loop μ-loop
-unfolding rows steppedTo _>>=_ chain give
+unfolding rowLines gotListBytes _>>=_ chain give
 returns-2 c =
     let g = c .before .loop .inv in
     sym (onto-yes _ _ _ _ (rw (going-all _ _ 0 g (c .loop-test .left))) (sym (g .list)))
