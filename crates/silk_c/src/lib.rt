@@ -1,14 +1,14 @@
 // The entries for C, on numbers and slices: each answers 0 for an accepted call, or the refusal's number.
 use base::Filling;
+use c_answers::facts_rows;
+use c_answers::number;
+use c_answers::tell_colour;
+use c_answers::tell_outline;
+use c_answers::tell_passes;
+use c_answers::tell_regions;
+use c_answers::tell_run;
 use rules::Outline;
 use rules::PostConfig;
-use told::facts_rows;
-use told::number;
-use told::tell_colour;
-use told::tell_outline;
-use told::tell_passes;
-use told::tell_regions;
-use told::tell_run;
 ghost use mathlib.Core.Path.{_≡_};
 ghost use mathlib.Core.List.{[], _∷_};
 ghost use lib.Dec.{ltb};
@@ -19,14 +19,15 @@ ghost use Rattle.hex.specs.Hex.{hexToRgb8};
 ghost use Rattle.rules.specs.Palette.{paletteOf};
 ghost use Rattle.rules.specs.Masks.{isSet, regionsAnswer, regionsLabels, maskAnswer, maskLabels, dilationAnswer, dilationOut};
 ghost use Rattle.rules.specs.Entries.{orphansAnswer, orphansCells, jaggiesAnswer, jaggiesCells, outlineAnswer, outlineCells, outlinePalette, saturationAnswer, saturationPalette, runAnswer, runCells, runPalette};
-ghost use Rattle.rules.specs.Run.{limitsAt};
+ghost use Rattle.rules.specs.Calls.{limitsAt, OrphansCall, JaggiesCall, OutlineCall, RunCall};
+ghost use Rattle.rules.specs.Sheet.{lentSheet};
 ghost use Rattle.silk_c.specs.Arguments.{outlineOf, betaOf, configOf};
-ghost use Rattle.told.specs.Outcomes.{refused, code, received, heard, done, labelled, cleaned, outlined, processed, coloured};
+ghost use Rattle.c_answers.specs.Outcomes.{CAnswer, refused, status, received, afterFactsRows, done, labelled, cleaned, outlined, processed, coloured};
 
 // Colours of sRGB as colours of CIELAB.
 #[no_mangle]
 pub extern "C" fn silk_rgb8_to_lab(rgb: &[u8], out: &mut [f64]) -> u32
-    ensures { λ r. ⌜ r ≡ code (done (filling (refusal (rgb8ToLabRows (now (rgb .entry)) (length (now (out .entry))))))) ⌝ }
+    ensures { λ r. ⌜ r ≡ status (done (filling (refusal (rgb8ToLabRows (now (rgb .entry)) (length (now (out .entry))))))) ⌝ }
     ensures { λ _. ⌜ now (out .exit) ≡ rgb8ToLabOut (now (rgb .entry)) (now (out .entry)) ⌝ }
 {
     number(color_lists::rgb8_to_lab(rgb, out))
@@ -35,7 +36,7 @@ pub extern "C" fn silk_rgb8_to_lab(rgb: &[u8], out: &mut [f64]) -> u32
 // Colours of CIELAB as colours of sRGB.
 #[no_mangle]
 pub extern "C" fn silk_lab_to_rgb8(lab: &[f64], out: &mut [u8]) -> u32
-    ensures { λ r. ⌜ r ≡ code (done (filling (refusal (labToRgb8Rows (now (lab .entry)) (length (now (out .entry))))))) ⌝ }
+    ensures { λ r. ⌜ r ≡ status (done (filling (refusal (labToRgb8Rows (now (lab .entry)) (length (now (out .entry))))))) ⌝ }
     ensures { λ _. ⌜ now (out .exit) ≡ labToRgb8Out (now (lab .entry)) (now (out .entry)) ⌝ }
 {
     number(color_lists::lab_to_rgb8(lab, out))
@@ -44,7 +45,7 @@ pub extern "C" fn silk_lab_to_rgb8(lab: &[f64], out: &mut [u8]) -> u32
 // The distances of the colours of two lists, pair by pair.
 #[no_mangle]
 pub extern "C" fn silk_delta_e(a: &[f64], b: &[f64], out: &mut [f64]) -> u32
-    ensures { λ r. ⌜ r ≡ code (done (filling (refusal (deltaERows (now (a .entry)) (now (b .entry)) (length (now (out .entry))))))) ⌝ }
+    ensures { λ r. ⌜ r ≡ status (done (filling (refusal (deltaERows (now (a .entry)) (now (b .entry)) (length (now (out .entry))))))) ⌝ }
     ensures { λ _. ⌜ now (out .exit) ≡ deltaEOut (now (a .entry)) (now (b .entry)) (now (out .entry)) ⌝ }
 {
     number(color_lists::delta_e(a, b, out))
@@ -53,7 +54,7 @@ pub extern "C" fn silk_delta_e(a: &[f64], b: &[f64], out: &mut [f64]) -> u32
 // The index of the nearest palette entry for each pixel.
 #[no_mangle]
 pub extern "C" fn silk_nearest_index(pixels: &[f64], palette: &[f64], out: &mut [i32]) -> u32
-    ensures { λ r. ⌜ r ≡ code (done (filling (refusal (nearestRows (now (pixels .entry)) (now (palette .entry)) (length (now (out .entry))))))) ⌝ }
+    ensures { λ r. ⌜ r ≡ status (done (filling (refusal (nearestRows (now (pixels .entry)) (now (palette .entry)) (length (now (out .entry))))))) ⌝ }
     ensures { λ _. ⌜ now (out .exit) ≡ nearestOut (now (pixels .entry)) (now (palette .entry)) (now (out .entry)) ⌝ }
 {
     number(color_lists::nearest_index(pixels, palette, out))
@@ -62,7 +63,7 @@ pub extern "C" fn silk_nearest_index(pixels: &[f64], palette: &[f64], out: &mut 
 // The distances of all colours of a palette from each other, row after row.
 #[no_mangle]
 pub extern "C" fn silk_palette_distance_matrix(palette: &[f64], out: &mut [f64]) -> u32
-    ensures { λ r. ⌜ r ≡ code (done (filling (refusal (matrixRows (now (palette .entry)) (length (now (out .entry))))))) ⌝ }
+    ensures { λ r. ⌜ r ≡ status (done (filling (refusal (matrixRows (now (palette .entry)) (length (now (out .entry))))))) ⌝ }
     ensures { λ _. ⌜ now (out .exit) ≡ matrixOut (now (palette .entry)) (now (out .entry)) ⌝ }
 {
     number(color_lists::palette_distance_matrix(palette, out))
@@ -71,7 +72,7 @@ pub extern "C" fn silk_palette_distance_matrix(palette: &[f64], out: &mut [f64])
 // The colour that a text names, as three bytes.
 #[no_mangle]
 pub extern "C" fn silk_hex_to_rgb8(text: &[u8], out: &mut [u8]) -> u32
-    ensures { λ r. ⌜ r ≡ code (unless (refusal (row 2 (ltb (length (now (out .entry))) 3) ∷ [])) refused (coloured (hexToRgb8 (now (text .entry))))) ⌝ }
+    ensures { λ r. ⌜ r ≡ status (unless (refusal (row 2 (ltb (length (now (out .entry))) 3) ∷ [])) refused (coloured (hexToRgb8 (now (text .entry))))) ⌝ }
     ensures { λ _. ⌜ now (out .exit) ≡ received (unless (refusal (row 2 (ltb (length (now (out .entry))) 3) ∷ [])) refused (coloured (hexToRgb8 (now (text .entry))))) (now (out .entry)) ⌝ }
 {
     if out.len() < 3 {
@@ -91,14 +92,15 @@ pub extern "C" fn silk_label_regions(
     work: &mut [u32],
     facts: &mut [u32],
 ) -> u32
-    ensures { λ r. ⌜ r ≡ code (heard h w (length (now (facts .entry))) 1 refused (labelled (regionsAnswer (now (cells .entry)) h w (now (labels .entry)) (length (now (work .entry)))))) ⌝ }
-    ensures { λ _. ⌜ now (labels .exit) ≡ heard h w (length (now (facts .entry))) 1 (λ n. now (labels .entry)) (regionsLabels (now (cells .entry)) h w (now (labels .entry)) (length (now (work .entry)))) ⌝ }
-    ensures { λ _. ⌜ now (facts .exit) ≡ received (heard h w (length (now (facts .entry))) 1 refused (labelled (regionsAnswer (now (cells .entry)) h w (now (labels .entry)) (length (now (work .entry)))))) (now (facts .entry)) ⌝ }
+    ensures { λ r. ⌜ (let answer : CAnswer = afterFactsRows h w (length (now (facts .entry))) 1 refused (labelled (regionsAnswer (now (cells .entry)) h w (now (labels .entry)) (length (now (work .entry))))) in
+        (r ≡ status answer)
+        × (now (labels .exit) ≡ afterFactsRows h w (length (now (facts .entry))) 1 (λ n. now (labels .entry)) (regionsLabels (now (cells .entry)) h w (now (labels .entry)) (length (now (work .entry)))))
+        × (now (facts .exit) ≡ received answer (now (facts .entry)))) ⌝ }
 {
     if let Filling::Refused(n) = facts_rows(h, w, facts.len(), 1) {
         return n as u32;
     }
-    let answer = grid::label_regions(cells, h, w, labels, work);
+    let answer = labels::label_regions(cells, h, w, labels, work);
     tell_regions(answer, facts)
 }
 
@@ -112,9 +114,10 @@ pub extern "C" fn silk_label4(
     work: &mut [u32],
     facts: &mut [u32],
 ) -> u32
-    ensures { λ r. ⌜ r ≡ code (heard h w (length (now (facts .entry))) 1 refused (labelled (maskAnswer (now (mask .entry)) h w (now (labels .entry)) (length (now (work .entry)))))) ⌝ }
-    ensures { λ _. ⌜ now (labels .exit) ≡ heard h w (length (now (facts .entry))) 1 (λ n. now (labels .entry)) (maskLabels (now (mask .entry)) h w (now (labels .entry)) (length (now (work .entry)))) ⌝ }
-    ensures { λ _. ⌜ now (facts .exit) ≡ received (heard h w (length (now (facts .entry))) 1 refused (labelled (maskAnswer (now (mask .entry)) h w (now (labels .entry)) (length (now (work .entry)))))) (now (facts .entry)) ⌝ }
+    ensures { λ r. ⌜ (let answer : CAnswer = afterFactsRows h w (length (now (facts .entry))) 1 refused (labelled (maskAnswer (now (mask .entry)) h w (now (labels .entry)) (length (now (work .entry))))) in
+        (r ≡ status answer)
+        × (now (labels .exit) ≡ afterFactsRows h w (length (now (facts .entry))) 1 (λ n. now (labels .entry)) (maskLabels (now (mask .entry)) h w (now (labels .entry)) (length (now (work .entry)))))
+        × (now (facts .exit) ≡ received answer (now (facts .entry)))) ⌝ }
 {
     if let Filling::Refused(n) = facts_rows(h, w, facts.len(), 1) {
         return n as u32;
@@ -133,7 +136,7 @@ pub extern "C" fn silk_binary_dilation8(
     out: &mut [u8],
     work: &mut [u32],
 ) -> u32
-    ensures { λ r. ⌜ r ≡ code (done (dilationAnswer (now (mask .entry)) h w k (now (out .entry)) (length (now (work .entry))))) ⌝ }
+    ensures { λ r. ⌜ r ≡ status (done (dilationAnswer (now (mask .entry)) h w k (now (out .entry)) (length (now (work .entry))))) ⌝ }
     ensures { λ _. ⌜ now (out .exit) ≡ dilationOut (now (mask .entry)) h w k (now (out .entry)) (length (now (work .entry))) ⌝ }
 {
     number(mask::binary_dilation8(mask, h, w, k, out, work))
@@ -153,9 +156,16 @@ pub extern "C" fn silk_remove_orphans(
     work: &mut [u32],
     facts: &mut [u32],
 ) -> u32
-    ensures { λ r. ⌜ r ≡ code (heard h w (length (now (facts .entry))) 1 refused (cleaned (orphansAnswer (now (cells .entry)) h w (paletteOf (now (palette .entry)) k) (limitsAt «orphan_min_region» «orphan_max_delta») «max_passes» (length (now (work .entry)))))) ⌝ }
-    ensures { λ _. ⌜ now (cells .exit) ≡ heard h w (length (now (facts .entry))) 1 (λ n. now (cells .entry)) (orphansCells (now (cells .entry)) h w (paletteOf (now (palette .entry)) k) (limitsAt «orphan_min_region» «orphan_max_delta») «max_passes» (length (now (work .entry)))) ⌝ }
-    ensures { λ _. ⌜ now (facts .exit) ≡ received (heard h w (length (now (facts .entry))) 1 refused (cleaned (orphansAnswer (now (cells .entry)) h w (paletteOf (now (palette .entry)) k) (limitsAt «orphan_min_region» «orphan_max_delta») «max_passes» (length (now (work .entry)))))) (now (facts .entry)) ⌝ }
+    ensures { λ r. ⌜ (let call : OrphansCall = record {
+      lent = lentSheet (now (cells .entry)) h w (length (now (work .entry)));
+      palette = paletteOf (now (palette .entry)) k;
+      limits = limitsAt «orphan_min_region» «orphan_max_delta»;
+      passes = «max_passes»;
+    } in
+        let answer : CAnswer = afterFactsRows h w (length (now (facts .entry))) 1 refused (cleaned (orphansAnswer call)) in
+        (r ≡ status answer)
+        × (now (cells .exit) ≡ afterFactsRows h w (length (now (facts .entry))) 1 (λ n. now (cells .entry)) (orphansCells call))
+        × (now (facts .exit) ≡ received answer (now (facts .entry)))) ⌝ }
 {
     if let Filling::Refused(n) = facts_rows(h, w, facts.len(), 1) {
         return n as u32;
@@ -177,8 +187,8 @@ pub extern "C" fn silk_remove_orphans(
 // Corners trimmed over the lent cells.
 #[no_mangle]
 pub extern "C" fn silk_fix_jaggies(cells: &mut [i32], h: usize, w: usize, work: &mut [u32]) -> u32
-    ensures { λ r. ⌜ r ≡ code (done (jaggiesAnswer (now (cells .entry)) h w (length (now (work .entry))))) ⌝ }
-    ensures { λ _. ⌜ now (cells .exit) ≡ jaggiesCells (now (cells .entry)) h w (length (now (work .entry))) ⌝ }
+    ensures { λ r. ⌜ (let call : JaggiesCall = record { lent = lentSheet (now (cells .entry)) h w (length (now (work .entry))) } in
+        (r ≡ status (done (jaggiesAnswer call))) × (now (cells .exit) ≡ jaggiesCells call)) ⌝ }
 {
     number(jaggies::fix_jaggies(cells, h, w, work))
 }
@@ -221,10 +231,16 @@ pub extern "C" fn silk_add_outline(
     work: &mut [u32],
     facts: &mut [u32],
 ) -> u32
-    ensures { λ n. ⌜ n ≡ code (heard h w (length (now (facts .entry))) 5 refused (outlined (outlineAnswer (now (cells .entry)) h w (paletteOf (now (palette .entry)) k) (outlineOf kind darken r g b) (isSet «allow_pad») (isSet «fixed_palette») (length (now (work .entry)))))) ⌝ }
-    ensures { λ _. ⌜ now (cells .exit) ≡ heard h w (length (now (facts .entry))) 5 (λ n. now (cells .entry)) (outlineCells (now (cells .entry)) h w (paletteOf (now (palette .entry)) k) (outlineOf kind darken r g b) (isSet «allow_pad») (isSet «fixed_palette») (length (now (work .entry)))) ⌝ }
-    ensures { λ _. ⌜ now (palette .exit) ≡ heard h w (length (now (facts .entry))) 5 (λ n. now (palette .entry)) (outlinePalette (now (cells .entry)) h w (paletteOf (now (palette .entry)) k) (outlineOf kind darken r g b) (isSet «allow_pad») (isSet «fixed_palette») (length (now (work .entry)))) ⌝ }
-    ensures { λ _. ⌜ now (facts .exit) ≡ received (heard h w (length (now (facts .entry))) 5 refused (outlined (outlineAnswer (now (cells .entry)) h w (paletteOf (now (palette .entry)) k) (outlineOf kind darken r g b) (isSet «allow_pad») (isSet «fixed_palette») (length (now (work .entry)))))) (now (facts .entry)) ⌝ }
+    ensures { λ n. ⌜ (let call : OutlineCall = record {
+      lent = lentSheet (now (cells .entry)) h w (length (now (work .entry)));
+      palette = paletteOf (now (palette .entry)) k;
+      how = record { outline = outlineOf kind darken r g b; «allow_pad» = isSet «allow_pad»; «fixed_palette» = isSet «fixed_palette» };
+    } in
+        let answer : CAnswer = afterFactsRows h w (length (now (facts .entry))) 5 refused (outlined (outlineAnswer call)) in
+        (n ≡ status answer)
+        × (now (cells .exit) ≡ afterFactsRows h w (length (now (facts .entry))) 5 (λ n. now (cells .entry)) (outlineCells call))
+        × (now (palette .exit) ≡ afterFactsRows h w (length (now (facts .entry))) 5 (λ n. now (palette .entry)) (outlinePalette call))
+        × (now (facts .exit) ≡ received answer (now (facts .entry)))) ⌝ }
 {
     if let Filling::Refused(n) = facts_rows(h, w, facts.len(), 5) {
         return n as u32;
@@ -239,7 +255,7 @@ pub extern "C" fn silk_add_outline(
 // A palette's a and b multiplied by beta.
 #[no_mangle]
 pub extern "C" fn silk_apply_saturation(palette: &mut [f64], k: usize, beta: f64) -> u32
-    ensures { λ r. ⌜ r ≡ code (done (saturationAnswer (paletteOf (now (palette .entry)) k) beta)) ⌝ }
+    ensures { λ r. ⌜ r ≡ status (done (saturationAnswer (paletteOf (now (palette .entry)) k) beta)) ⌝ }
     ensures { λ _. ⌜ now (palette .exit) ≡ saturationPalette (paletteOf (now (palette .entry)) k) beta ⌝ }
 {
     number(saturation::apply_saturation(palette, k, beta))
@@ -300,10 +316,19 @@ pub extern "C" fn silk_run(
     work: &mut [u32],
     facts: &mut [u32],
 ) -> u32
-    ensures { λ n. ⌜ n ≡ code (heard h w (length (now (facts .entry))) 7 refused (processed (runAnswer (now (cells .entry)) h w (paletteOf (now (palette .entry)) k) (configOf (betaOf kind beta) orphans region delta jaggies (outlineOf kind darken r g b) tileset) (isSet saturated) (isSet «fixed_palette») margin (length (now (work .entry)))))) ⌝ }
-    ensures { λ _. ⌜ now (cells .exit) ≡ heard h w (length (now (facts .entry))) 7 (λ n. now (cells .entry)) (runCells (now (cells .entry)) h w (paletteOf (now (palette .entry)) k) (configOf (betaOf kind beta) orphans region delta jaggies (outlineOf kind darken r g b) tileset) (isSet saturated) (isSet «fixed_palette») margin (length (now (work .entry)))) ⌝ }
-    ensures { λ _. ⌜ now (palette .exit) ≡ heard h w (length (now (facts .entry))) 7 (λ n. now (palette .entry)) (runPalette (now (cells .entry)) h w (paletteOf (now (palette .entry)) k) (configOf (betaOf kind beta) orphans region delta jaggies (outlineOf kind darken r g b) tileset) (isSet saturated) (isSet «fixed_palette») margin (length (now (work .entry)))) ⌝ }
-    ensures { λ _. ⌜ now (facts .exit) ≡ received (heard h w (length (now (facts .entry))) 7 refused (processed (runAnswer (now (cells .entry)) h w (paletteOf (now (palette .entry)) k) (configOf (betaOf kind beta) orphans region delta jaggies (outlineOf kind darken r g b) tileset) (isSet saturated) (isSet «fixed_palette») margin (length (now (work .entry)))))) (now (facts .entry)) ⌝ }
+    ensures { λ n. ⌜ (let call : RunCall = record {
+      lent = lentSheet (now (cells .entry)) h w (length (now (work .entry)));
+      palette = paletteOf (now (palette .entry)) k;
+      config = configOf (betaOf kind beta) orphans region delta jaggies (outlineOf kind darken r g b) tileset;
+      saturated = isSet saturated;
+      fixed = isSet «fixed_palette»;
+      margin = margin;
+    } in
+        let answer : CAnswer = afterFactsRows h w (length (now (facts .entry))) 7 refused (processed (runAnswer call)) in
+        (n ≡ status answer)
+        × (now (cells .exit) ≡ afterFactsRows h w (length (now (facts .entry))) 7 (λ n. now (cells .entry)) (runCells call))
+        × (now (palette .exit) ≡ afterFactsRows h w (length (now (facts .entry))) 7 (λ n. now (palette .entry)) (runPalette call))
+        × (now (facts .exit) ≡ received answer (now (facts .entry)))) ⌝ }
 {
     if let Filling::Refused(n) = facts_rows(h, w, facts.len(), 7) {
         return n as u32;

@@ -2,8 +2,8 @@
 use mathlib.Core.List.{[]}
 use borrow.Author.Tests.{lt-ltb, le-ltb}
 use Rattle.base.specs.Refusals.{row, refusal}
-use Rattle.checks.proofs.Rows.{row-hit, row-pass}
-use Rattle.told.specs.Outcomes.{coloured}
+use Rattle.base.proofs.Refusing.{row-hit, row-pass}
+use Rattle.c_answers.specs.Outcomes.{coloured}
 use Rattle.silk_c.proofs.Hearing.{turned, answered}
 use borrow.Author.Needs.{needs}
 use Rattle.silk_c.proofs.silk_hex_to_rgb8.Statement.{statement}

@@ -1,6 +1,6 @@
 -- `silk_c::silk_run` meets its contract: rows 1 and 2 for its facts, then what its entry answers. Assumes nothing.
 use mir.Facts.{toZ-ofZ}
-use Rattle.told.specs.Outcomes.{heard, processed}
+use Rattle.c_answers.specs.Outcomes.{afterFactsRows, processed}
 use Rattle.silk_c.proofs.Hearing.{turned-two, heard-two, roomy}
 use Rattle.silk_c.proofs.Sizes.{processed-small}
 use borrow.Author.Needs.{needs}
@@ -17,7 +17,7 @@ cast-result : tie.Need-cast-result
 cast-result c = search needs
 
 returns : tie.Need-returns
-unfolding heard
+unfolding afterFactsRows
 returns c = turned-two _ (c .before .before .before .facts-rows .ensures) (c .before .n .given .1) _ _ _ _ _ _
 
 enum-told : tie.Need-enum-told
@@ -45,7 +45,7 @@ tell-run-requires : tie.Need-tell-run-requires
 tell-run-requires c κs =
     let l = c .before .before .before .before .before .before in
     let u = l .before .before .before .before .before .before .before .before .before in
-    (processed-small _ _ _ _ _ _ _ _ _ (l .run .ensures .0), roomy _ _ _ _ (u .before .before .facts-rows .ensures) (u .enum-told .given .1))
+    (processed-small _ (l .run .ensures .0), roomy _ _ _ _ (u .before .before .facts-rows .ensures) (u .enum-told .given .1))
 
 same-length : tie.Need-same-length
 same-length c = search needs
@@ -60,7 +60,7 @@ same-length-4 : tie.Need-same-length-4
 same-length-4 c = search needs
 
 returns-2 : tie.Need-returns-2
-unfolding heard
+unfolding afterFactsRows
 returns-2 c =
     let t = c .before .before in
     let l = t .before .before .before .before .before .before .before in

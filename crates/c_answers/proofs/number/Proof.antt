@@ -1,8 +1,8 @@
--- `told::number` meets its contract: by the answer's cases. Assumes nothing.
-use Rattle.told.specs.Outcomes.{code, done}
+-- `c_answers::number` meets its contract: by the answer's cases. Assumes nothing.
+use Rattle.c_answers.specs.Outcomes.{status, done}
 use borrow.Author.Needs.{needs}
-use Rattle.told.proofs.number.Statement.{statement}
-use Rattle.told.proofs.number.Tie as tie
+use Rattle.c_answers.proofs.number.Statement.{statement}
+use Rattle.c_answers.proofs.number.Tie as tie
 
 enum-told : tie.Need-enum-told
 enum-told c = search needs
@@ -14,11 +14,11 @@ cast-result : tie.Need-cast-result
 cast-result c = search needs
 
 returns : tie.Need-returns
-unfolding code done
+unfolding status done
 returns c = rw (c .enum-told .given .1)
 
 returns-2 : tie.Need-returns-2
-unfolding code done
+unfolding status done
 returns-2 c = rw (c .before .answer .given .1)
 
 pub number-spec : {M : Type 1} → statement M

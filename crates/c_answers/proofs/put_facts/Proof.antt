@@ -1,11 +1,11 @@
--- `told::put_facts` meets its contract: five numbers, stored one after the other. Assumes nothing.
+-- `c_answers::put_facts` meets its contract: five numbers, stored one after the other. Assumes nothing.
 use native.Mathlib.Omega.{arith}
 use lib.ListN.{length-set}
-use Rattle.told.specs.Outcomes.{factsList}
-use Rattle.told.proofs.Stores.{stored-five}
+use Rattle.c_answers.specs.Outcomes.{factsList}
+use Rattle.c_answers.proofs.Stores.{stored-five}
 use borrow.Author.Needs.{needs}
-use Rattle.told.proofs.put_facts.Statement.{statement}
-use Rattle.told.proofs.put_facts.Tie as tie
+use Rattle.c_answers.proofs.put_facts.Statement.{statement}
+use Rattle.c_answers.proofs.put_facts.Tie as tie
 
 cast-facts : tie.Need-cast-facts
 cast-facts c = search needs

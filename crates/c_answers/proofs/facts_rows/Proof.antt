@@ -1,11 +1,11 @@
--- `told::facts_rows` meets its contract: the first row that applies. Assumes nothing.
+-- `c_answers::facts_rows` meets its contract: the first row that applies. Assumes nothing.
 use mathlib.Core.Path.{sym, _∙_}
 use borrow.Author.Needs.{needs}
 use borrow.Author.Tests.{lt-ltb, le-ltb}
 use Rattle.base.specs.Refusals.{refusal, unless, filling}
 use Rattle.rules.specs.Rows.{tooLarge, tooShort}
-use Rattle.told.proofs.facts_rows.Statement.{statement}
-use Rattle.told.proofs.facts_rows.Tie as tie
+use Rattle.c_answers.proofs.facts_rows.Statement.{statement}
+use Rattle.c_answers.proofs.facts_rows.Tie as tie
 
 too-large-requires : tie.Need-too-large-requires
 too-large-requires c κs = search needs

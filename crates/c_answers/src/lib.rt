@@ -1,7 +1,7 @@
 // What C gets of an entry's answer: its number, and the facts at the front of a list.
 use base::Filling;
-use checks::too_large;
 use hex::Hex;
+use refusals::too_large;
 use rules::Cleaning;
 use rules::Facts;
 use rules::Labelling;
@@ -15,8 +15,8 @@ ghost use Prim.Native.Nat.{ℕ, _≤_};
 ghost use lib.ListN.{length};
 ghost use Rattle.base.specs.Refusals.{refusal, filling};
 ghost use Rattle.rules.specs.Rows.{tooLarge, tooShort};
-ghost use Rattle.told.specs.Outcomes.{given, code, received, done, labelled, cleaned, indexFact, factsList, outlined, processed, coloured};
-ghost use Rattle.told.specs.Room.{Small};
+ghost use Rattle.c_answers.specs.Outcomes.{given, status, received, done, labelled, cleaned, indexFact, factsList, outlined, processed, coloured};
+ghost use Rattle.c_answers.specs.Room.{FactsFit};
 
 // Rows 1 and 2 of an entry that has a list of facts: a side above 512, or fewer places than facts.
 pub fn facts_rows(h: usize, w: usize, have: usize, need: usize) -> Filling
@@ -33,7 +33,7 @@ pub fn facts_rows(h: usize, w: usize, have: usize, need: usize) -> Filling
 
 // The number of an entry that gives nothing but its outputs.
 pub fn number(answer: Filling) -> u32
-    ensures { λ r. ⌜ r ≡ code (done answer) ⌝ }
+    ensures { λ r. ⌜ r ≡ status (done answer) ⌝ }
 {
     match answer {
         Filling::Done => 0,
@@ -44,7 +44,7 @@ pub fn number(answer: Filling) -> u32
 // The number of regions is the one fact.
 pub fn tell_regions(answer: Labelling, facts: &mut [u32]) -> u32
     requires { ⌜ 1 ≤ length (now facts) ⌝ }
-    ensures { λ r. ⌜ r ≡ code (labelled answer) ⌝ }
+    ensures { λ r. ⌜ r ≡ status (labelled answer) ⌝ }
     ensures { λ _. ⌜ now (facts .exit) ≡ received (labelled answer) (now (facts .entry)) ⌝ }
 {
     match answer {
@@ -59,7 +59,7 @@ pub fn tell_regions(answer: Labelling, facts: &mut [u32]) -> u32
 // The count of repainting passes is the one fact.
 pub fn tell_passes(answer: Cleaning, facts: &mut [u32]) -> u32
     requires { ⌜ 1 ≤ length (now facts) ⌝ }
-    ensures { λ r. ⌜ r ≡ code (cleaned answer) ⌝ }
+    ensures { λ r. ⌜ r ≡ status (cleaned answer) ⌝ }
     ensures { λ _. ⌜ now (facts .exit) ≡ received (cleaned answer) (now (facts .entry)) ⌝ }
 {
     match answer {
@@ -91,7 +91,7 @@ fn flag(b: bool) -> u32
 
 // Writes height, width, colours, index and clipped.
 fn put_facts(f: Facts, facts: &mut [u32])
-    requires { ⌜ Small f ⌝ }
+    requires { ⌜ FactsFit f ⌝ }
     requires { ⌜ 5 ≤ length (now facts) ⌝ }
     ensures { λ _. ⌜ now (facts .exit) ≡ received (given (factsList f)) (now (facts .entry)) ⌝ }
 {
@@ -105,9 +105,9 @@ fn put_facts(f: Facts, facts: &mut [u32])
 
 // The facts of a sheet that was outlined.
 pub fn tell_outline(answer: Outlining, facts: &mut [u32]) -> u32
-    requires { ⌜ ((f : Facts) → answer ≡ Outlining.Drawn f → Small f) ⌝ }
+    requires { ⌜ ((f : Facts) → answer ≡ Outlining.Drawn f → FactsFit f) ⌝ }
     requires { ⌜ 5 ≤ length (now facts) ⌝ }
-    ensures { λ r. ⌜ r ≡ code (outlined answer) ⌝ }
+    ensures { λ r. ⌜ r ≡ status (outlined answer) ⌝ }
     ensures { λ _. ⌜ now (facts .exit) ≡ received (outlined answer) (now (facts .entry)) ⌝ }
 {
     match answer {
@@ -121,9 +121,9 @@ pub fn tell_outline(answer: Outlining, facts: &mut [u32]) -> u32
 
 // The facts of a sheet that was run, and the passes of both cleanings.
 pub fn tell_run(answer: Processing, facts: &mut [u32]) -> u32
-    requires { ⌜ ((f : Facts) (p q : ℕ) → answer ≡ Processing.Processed f p q → Small f) ⌝ }
+    requires { ⌜ ((f : Facts) (p q : ℕ) → answer ≡ Processing.Processed f p q → FactsFit f) ⌝ }
     requires { ⌜ 7 ≤ length (now facts) ⌝ }
-    ensures { λ r. ⌜ r ≡ code (processed answer) ⌝ }
+    ensures { λ r. ⌜ r ≡ status (processed answer) ⌝ }
     ensures { λ _. ⌜ now (facts .exit) ≡ received (processed answer) (now (facts .entry)) ⌝ }
 {
     match answer {
@@ -140,7 +140,7 @@ pub fn tell_run(answer: Processing, facts: &mut [u32]) -> u32
 // The three bytes of a colour.
 pub fn tell_colour(answer: Hex, out: &mut [u8]) -> u32
     requires { ⌜ 3 ≤ length (now out) ⌝ }
-    ensures { λ r. ⌜ r ≡ code (coloured answer) ⌝ }
+    ensures { λ r. ⌜ r ≡ status (coloured answer) ⌝ }
     ensures { λ _. ⌜ now (out .exit) ≡ received (coloured answer) (now (out .entry)) ⌝ }
 {
     match answer {

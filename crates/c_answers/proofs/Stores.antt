@@ -6,7 +6,7 @@ use native.Mathlib.Omega.{arith}
 use lib.ListN.{length, set}
 use Rattle.base.specs.Places.{table, tableFrom}
 use Rattle.base.specs.Outputs.{filled}
-use Rattle.told.specs.Outcomes.{given, received}
+use Rattle.c_answers.specs.Outcomes.{given, received}
 
 pub stored-one : (l : List ℕ) (a : ℕ) → 1 ≤ length l → set l 0 a ≡ received (given (a ∷ [])) l
 unfolding received filled table tableFrom

@@ -1,9 +1,9 @@
--- `told::tell_outline` meets its contract: by the answer's cases. Assumes nothing.
+-- `c_answers::tell_outline` meets its contract: by the answer's cases. Assumes nothing.
 use mathlib.Core.Path.{refl}
-use Rattle.told.specs.Outcomes.{code, received, outlined}
+use Rattle.c_answers.specs.Outcomes.{status, received, outlined}
 use borrow.Author.Needs.{needs}
-use Rattle.told.proofs.tell_outline.Statement.{statement}
-use Rattle.told.proofs.tell_outline.Tie as tie
+use Rattle.c_answers.proofs.tell_outline.Statement.{statement}
+use Rattle.c_answers.proofs.tell_outline.Tie as tie
 
 enum-known-answer : tie.Need-enum-known-answer
 enum-known-answer c = search needs
@@ -20,14 +20,14 @@ put-facts-requires c κs =
     (s .pre .0 _ (c .before .before .answer2 .given .1), s .pre .1)
 
 returns : tie.Need-returns
-unfolding code received outlined
+unfolding status received outlined
 returns c = rw (c .before .answer .given .1) (refl, refl)
 
 same-length : tie.Need-same-length
 same-length c = search needs
 
 returns-2 : tie.Need-returns-2
-unfolding code outlined
+unfolding status outlined
 returns-2 c =
     let p = c .before .before in
     rw (p .before .before .before .answer2 .given .1) (refl, p .put-facts .ensures)

@@ -1,10 +1,10 @@
--- `told::tell_regions` meets its contract: by the answer's cases. Assumes nothing.
+-- `c_answers::tell_passes` meets its contract: by the answer's cases. Assumes nothing.
 use mathlib.Core.Path.{refl}
-use Rattle.told.specs.Outcomes.{code, received, labelled}
-use Rattle.told.proofs.Stores.{stored-one}
+use Rattle.c_answers.specs.Outcomes.{status, received, cleaned}
+use Rattle.c_answers.proofs.Stores.{stored-one}
 use borrow.Author.Needs.{needs}
-use Rattle.told.proofs.tell_regions.Statement.{statement}
-use Rattle.told.proofs.tell_regions.Tie as tie
+use Rattle.c_answers.proofs.tell_passes.Statement.{statement}
+use Rattle.c_answers.proofs.tell_passes.Tie as tie
 
 enum-known-answer : tie.Need-enum-known-answer
 enum-known-answer c = search needs
@@ -19,18 +19,18 @@ slice-write-facts : tie.Need-slice-write-facts
 slice-write-facts c = search needs
 
 returns : tie.Need-returns
-unfolding code received labelled
+unfolding status received cleaned
 returns c = rw (c .before .answer .given .1) (refl, refl)
 
 same-length : tie.Need-same-length
 same-length c = search needs
 
 returns-2 : tie.Need-returns-2
-unfolding code labelled
+unfolding status cleaned
 returns-2 c = rw (c .before .answer2 .given .1) (refl, stored-one _ _ (c .before .before .before .pre))
 
-pub tell-regions-spec : {M : Type 1} → statement M
-tell-regions-spec =
+pub tell-passes-spec : {M : Type 1} → statement M
+tell-passes-spec =
     tie.close
     (tie.spec
     enum-known-answer

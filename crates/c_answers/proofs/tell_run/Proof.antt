@@ -1,11 +1,11 @@
--- `told::tell_run` meets its contract: by the answer's cases. Assumes nothing.
+-- `c_answers::tell_run` meets its contract: by the answer's cases. Assumes nothing.
 use mathlib.Core.Path.{refl}
 use native.Mathlib.Omega.{arith}
-use Rattle.told.specs.Outcomes.{code, received, factsList, processed}
-use Rattle.told.proofs.Stores.{stored-seven}
+use Rattle.c_answers.specs.Outcomes.{status, received, factsList, processed}
+use Rattle.c_answers.proofs.Stores.{stored-seven}
 use borrow.Author.Needs.{needs}
-use Rattle.told.proofs.tell_run.Statement.{statement}
-use Rattle.told.proofs.tell_run.Tie as tie
+use Rattle.c_answers.proofs.tell_run.Statement.{statement}
+use Rattle.c_answers.proofs.tell_run.Tie as tie
 
 enum-known-answer : tie.Need-enum-known-answer
 enum-known-answer c = search needs
@@ -28,14 +28,14 @@ slice-write-facts-2 : tie.Need-slice-write-facts-2
 slice-write-facts-2 c = search needs
 
 returns : tie.Need-returns
-unfolding code received processed
+unfolding status received processed
 returns c = rw (c .before .answer .given .1) (refl, refl)
 
 same-length : tie.Need-same-length
 same-length c = search needs
 
 returns-2 : tie.Need-returns-2
-unfolding code processed factsList
+unfolding status processed factsList
 returns-2 c =
     let p = c .before .before in
     let a = p .before .before .before in

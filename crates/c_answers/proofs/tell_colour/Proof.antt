@@ -1,12 +1,12 @@
--- `told::tell_colour` meets its contract: by the answer's cases. Assumes nothing.
+-- `c_answers::tell_colour` meets its contract: by the answer's cases. Assumes nothing.
 use mathlib.Core.Path.{refl}
 use native.Mathlib.Omega.{arith}
 use lib.ListN.{length-set}
-use Rattle.told.specs.Outcomes.{code, received, coloured}
-use Rattle.told.proofs.Stores.{stored-three}
+use Rattle.c_answers.specs.Outcomes.{status, received, coloured}
+use Rattle.c_answers.proofs.Stores.{stored-three}
 use borrow.Author.Needs.{needs}
-use Rattle.told.proofs.tell_colour.Statement.{statement}
-use Rattle.told.proofs.tell_colour.Tie as tie
+use Rattle.c_answers.proofs.tell_colour.Statement.{statement}
+use Rattle.c_answers.proofs.tell_colour.Tie as tie
 
 enum-known-answer : tie.Need-enum-known-answer
 enum-known-answer c = search needs
@@ -27,14 +27,14 @@ slice-write-out-3 : tie.Need-slice-write-out-3
 slice-write-out-3 c = search needs
 
 returns : tie.Need-returns
-unfolding code received coloured
+unfolding status received coloured
 returns c = rw (c .before .answer .given .1) (refl, refl)
 
 same-length : tie.Need-same-length
 same-length c = search needs
 
 returns-2 : tie.Need-returns-2
-unfolding code coloured
+unfolding status coloured
 returns-2 c = rw (c .before .answer2 .given .1) (refl, stored-three _ _ _ _ (c .before .before .before .pre))
 
 pub tell-colour-spec : {M : Type 1} → statement M

@@ -1,9 +1,9 @@
--- `told::index_fact` meets its contract: by the index's cases. Assumes nothing.
+-- `c_answers::index_fact` meets its contract: by the index's cases. Assumes nothing.
 use native.Mathlib.Omega.{arith}
-use Rattle.told.specs.Outcomes.{indexFact}
+use Rattle.c_answers.specs.Outcomes.{indexFact}
 use borrow.Author.Needs.{needs}
-use Rattle.told.proofs.index_fact.Statement.{statement}
-use Rattle.told.proofs.index_fact.Tie as tie
+use Rattle.c_answers.proofs.index_fact.Statement.{statement}
+use Rattle.c_answers.proofs.index_fact.Tie as tie
 
 enum-told : tie.Need-enum-told
 enum-told c = search needs
