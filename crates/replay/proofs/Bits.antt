@@ -11,16 +11,16 @@ use lib.Ieee.Compare.{differs-from-itself, nan-differs}
 use mir.Syntax.{w32}
 use mir.Val.{ofZ, toZ}
 use mir.Facts.{sfits-toZ, toZ-ofZ}
-use Rattle.replay.specs.Kinds.{cellOf}
+use Rattle.replay.specs.Kinds.{asCell}
 
 -- ---- cells
 
 -- turned twice, bits are what they were
-pub turned-twice : (n : ℕ) → toZ w32 (4294967295 - (4294967295 - n % 2 ^ 32)) ≡ cellOf n
+pub turned-twice : (n : ℕ) → toZ w32 (4294967295 - (4294967295 - n % 2 ^ 32)) ≡ asCell n
 turned-twice n = let e : 4294967295 - (4294967295 - n % 2 ^ 32) ≡ n % 2 ^ 32 = omega arith in ap (toZ w32) e
 
 -- a cell is stored as its bits
-pub cell-kept : (z : ℤ) (n m : ℕ) → z ≡ cellOf n → n ≡ m → toZ w32 (ofZ w32 z) ≡ cellOf m
+pub cell-kept : (z : ℤ) (n m : ℕ) → z ≡ asCell n → n ≡ m → toZ w32 (ofZ w32 z) ≡ asCell m
 cell-kept z n m e h = rw (e, ← h) (toZ-ofZ {w = w32} (sfits-toZ {w = w32} {n = n % 2 ^ 32} (record { fits = omega arith })))
 
 -- ---- doubles

@@ -2,4 +2,4 @@ pub mod Bits
 pub mod Filling
 pub mod Agreeing
 pub mod Texts
-pub mod Verdicts
+pub mod Comparisons

@@ -1,4 +1,4 @@
 pub mod Kinds
 pub mod Lists
 pub mod Texts
-pub mod Verdicts
+pub mod Comparisons

@@ -3,7 +3,7 @@ use Prim.Native.Nat.{ℕ, _+_, _%_, _^_, min}
 use mathlib.Core.Bool.{Bool, not, cond, _&&_}
 use mathlib.Core.List.{List}
 use lib.Dec.{eqb, ltb}
-use lib.ListN.{length, getD}
+use lib.ListN.{getD}
 use Rattle.base.specs.Places.{any, table}
 use Rattle.replay.specs.declared.stream.Stored.{Stored}
 use Rattle.replay.specs.declared.stream.After.{After}
@@ -33,8 +33,8 @@ unfoldable pub elementAfter : List ℕ → After → ℕ → ℕ
 elementAfter numbers a i = cond (ltb i (a .given)) (getD numbers (beyond (a .from) i) 0) (element numbers (a .before) i)
 
 -- the list, each number read as an element, as far as the room reaches
-unfoldable pub lent : {A : Type 0} → (ℕ → A) → List ℕ → Stored → ℕ → List A
-lent read numbers s room = table (min (s .len) room) (λ i. read (element numbers s i))
+unfoldable pub storedList : {A : Type 0} → (ℕ → A) → List ℕ → Stored → ℕ → List A
+storedList read numbers s room = table (min (s .len) room) (λ i. read (element numbers s i))
 
 -- whether a list of n elements has the stored length, and its elements pass the test against what is stored
 unfoldable pub agrees : List ℕ → After → ℕ → (ℕ → ℕ → Bool) → Bool

@@ -2,7 +2,7 @@
 ghost use mathlib.Core.Path.{_≡_};
 ghost use Prim.Native.Nat.{_/_, _%_, _^_};
 ghost use lib.Ieee.{binary64, toBits};
-ghost use Rattle.replay.specs.Kinds.{byteOf, wordOf, cellOf, doubleOf};
+ghost use Rattle.replay.specs.Kinds.{asByte, asWord, asCell, asDouble};
 
 // 2 ^ 31, 2 ^ 32, 2 ^ 52 and 2 ^ 63
 const HALF: u64 = 0x8000_0000;
@@ -17,20 +17,20 @@ const SIGN: u64 = 0x8000_0000_0000_0000;
 const NAN: u64 = 0x7ff8_0000_0000_0000;
 
 pub fn byte(n: u64) -> u8
-    ensures { λ r. ⌜ r ≡ byteOf n ⌝ }
+    ensures { λ r. ⌜ r ≡ asByte n ⌝ }
 {
     (n % 256) as u8
 }
 
 pub fn word(n: u64) -> u32
-    ensures { λ r. ⌜ r ≡ wordOf n ⌝ }
+    ensures { λ r. ⌜ r ≡ asWord n ⌝ }
 {
     (n % WORDS) as u32
 }
 
 // The signed number that 32 bits are in two's complement.
 pub fn cell(n: u64) -> i32
-    ensures { λ r. ⌜ r ≡ cellOf n ⌝ }
+    ensures { λ r. ⌜ r ≡ asCell n ⌝ }
 {
     let bits = n % WORDS;
     if bits < HALF {
@@ -43,7 +43,7 @@ pub fn cell(n: u64) -> i32
 // The double of bits whose exponent is the highest one: infinite, or NaN.
 fn special(bits: u64) -> f64
     requires { ⌜ bits % 2 ^ 63 / 2 ^ 52 ≡ 2047 ⌝ }
-    ensures { λ r. ⌜ r ≡ doubleOf bits ⌝ }
+    ensures { λ r. ⌜ r ≡ asDouble bits ⌝ }
 {
     if bits % UNIT != 0 {
         return 0.0 / 0.0;
@@ -53,7 +53,7 @@ fn special(bits: u64) -> f64
 
 // The double that has these bits.
 pub fn double(bits: u64) -> f64
-    ensures { λ r. ⌜ r ≡ doubleOf bits ⌝ }
+    ensures { λ r. ⌜ r ≡ asDouble bits ⌝ }
 {
     if bits % SIGN / UNIT == 2047 {
         return special(bits);

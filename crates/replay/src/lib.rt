@@ -1,13 +1,15 @@
 // Stored answers as a stream of whole numbers: reading them, the lists among them, whether a call gave what they say, and what is printed of that.
 // Every function takes any stream: a number past its end is 0, so that a malformed one shows as a difference.
-pub mod facts;
+pub mod comparison;
 pub mod kinds;
 pub mod lists;
 pub mod stream;
-pub mod verdict;
 
-pub use facts::no_facts;
-pub use facts::put_fact;
+pub use comparison::Comparison;
+pub use comparison::answered;
+pub use comparison::case_end;
+pub use comparison::report_case;
+pub use comparison::report_total;
 pub use kinds::byte;
 pub use kinds::cell;
 pub use kinds::double;
@@ -22,9 +24,3 @@ pub use stream::TEXT;
 pub use stream::number;
 pub use stream::past;
 pub use stream::read;
-pub use verdict::Verdict;
-pub use verdict::answered;
-pub use verdict::case_end;
-pub use verdict::case_told;
-pub use verdict::filling_number;
-pub use verdict::total_told;

@@ -1,8 +1,8 @@
 // Lists of bytes, words, cells and doubles as the numbers give them, and whether they hold what is stored of them after a call.
 ghost use mathlib.Core.Path.{_≡_};
 ghost use lib.ListN.{length};
-ghost use Rattle.replay.specs.Kinds.{byteOf, wordOf, cellOf, doubleOf, sameByte, sameWord, sameCell, sameDouble};
-ghost use Rattle.replay.specs.Lists.{lent, agrees};
+ghost use Rattle.replay.specs.Kinds.{asByte, asWord, asCell, asDouble, sameByte, sameWord, sameCell, sameDouble};
+ghost use Rattle.replay.specs.Lists.{storedList, agrees};
 use crate::kinds::bits_of;
 use crate::kinds::byte;
 use crate::kinds::cell;
@@ -14,7 +14,7 @@ use crate::stream::least;
 
 // The list of bytes, in the first part of a buffer, or in all of one that is too short.
 pub fn lend_bytes<'a>(numbers: &[u64], s: Stored, buffer: &'a mut [u8]) -> &'a mut [u8]
-    ensures { λ r. ⌜ now r ≡ lent byteOf (now (numbers .entry)) s (length (now (buffer .entry))) ⌝ }
+    ensures { λ r. ⌜ now r ≡ storedList asByte (now (numbers .entry)) s (length (now (buffer .entry))) ⌝ }
 {
     let n = least(s.len, buffer.len());
     let mut i = 0;
@@ -26,7 +26,7 @@ pub fn lend_bytes<'a>(numbers: &[u64], s: Stored, buffer: &'a mut [u8]) -> &'a m
 }
 
 pub fn lend_words<'a>(numbers: &[u64], s: Stored, buffer: &'a mut [u32]) -> &'a mut [u32]
-    ensures { λ r. ⌜ now r ≡ lent wordOf (now (numbers .entry)) s (length (now (buffer .entry))) ⌝ }
+    ensures { λ r. ⌜ now r ≡ storedList asWord (now (numbers .entry)) s (length (now (buffer .entry))) ⌝ }
 {
     let n = least(s.len, buffer.len());
     let mut i = 0;
@@ -38,7 +38,7 @@ pub fn lend_words<'a>(numbers: &[u64], s: Stored, buffer: &'a mut [u32]) -> &'a 
 }
 
 pub fn lend_cells<'a>(numbers: &[u64], s: Stored, buffer: &'a mut [i32]) -> &'a mut [i32]
-    ensures { λ r. ⌜ now r ≡ lent cellOf (now (numbers .entry)) s (length (now (buffer .entry))) ⌝ }
+    ensures { λ r. ⌜ now r ≡ storedList asCell (now (numbers .entry)) s (length (now (buffer .entry))) ⌝ }
 {
     let n = least(s.len, buffer.len());
     let mut i = 0;
@@ -50,7 +50,7 @@ pub fn lend_cells<'a>(numbers: &[u64], s: Stored, buffer: &'a mut [i32]) -> &'a 
 }
 
 pub fn lend_doubles<'a>(numbers: &[u64], s: Stored, buffer: &'a mut [f64]) -> &'a mut [f64]
-    ensures { λ r. ⌜ now r ≡ lent doubleOf (now (numbers .entry)) s (length (now (buffer .entry))) ⌝ }
+    ensures { λ r. ⌜ now r ≡ storedList asDouble (now (numbers .entry)) s (length (now (buffer .entry))) ⌝ }
 {
     let n = least(s.len, buffer.len());
     let mut i = 0;

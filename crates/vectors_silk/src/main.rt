@@ -209,7 +209,7 @@ fn replay_all(cases: &[u8; CASES], count: usize) -> bool
         number += 1;
         at = c.next;
     }
-    replay::total_told(b"silk_cases.txt", number, differing)
+    replay::report_total(b"silk_cases.txt", number, differing)
 }
 
 // Replays the file of cases.

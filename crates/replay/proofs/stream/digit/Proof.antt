@@ -6,15 +6,6 @@ use Rattle.replay.proofs.Texts.{digit-decimal, digit-letter, digit-belo
 use Rattle.replay.proofs.stream.digit.Statement.{statement}
 use Rattle.replay.proofs.stream.digit.Tie as tie
 
-wide-requires : tie.Need-wide-requires
-wide-requires c κs = search needs
-
-add-wide : tie.Need-add-wide
-add-wide c = search needs
-
-wide-requires-2 : tie.Need-wide-requires-2
-wide-requires-2 c κs = search needs
-
 returns : tie.Need-returns
 returns c = c .wide .ensures ∙ digit-decimal _ (omega arith) (omega arith)
 
@@ -34,9 +25,7 @@ pub digit-spec : {M : Type 1} → statement M
 digit-spec =
     tie.close
     (tie.spec
-    wide-requires
-    add-wide
-    wide-requires-2
+    (search needs) (search needs) (search needs)
     returns
     returns-2
     returns-3

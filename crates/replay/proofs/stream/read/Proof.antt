@@ -4,24 +4,6 @@ use Rattle.replay.proofs.Texts.{bytes-fit}
 use Rattle.replay.proofs.stream.read.Statement.{statement}
 use Rattle.replay.proofs.stream.read.Tie as tie
 
-open-read-requires : tie.Need-open-read-requires
-open-read-requires c κs = search needs
-
-read-full-requires : tie.Need-read-full-requires
-read-full-requires c κs = search needs
-
-close-requires : tie.Need-close-requires
-close-requires c κs = search needs
-
-parsed-requires : tie.Need-parsed-requires
-parsed-requires c κs = search needs
-
-same-length : tie.Need-same-length
-same-length c = search needs
-
-same-length-2 : tie.Need-same-length-2
-same-length-2 c = search needs
-
 returns : tie.Need-returns
 returns c =
     let p = c .before .before in
@@ -32,10 +14,5 @@ pub read-spec : {M : Type 1} → statement M
 read-spec =
     tie.close
     (tie.spec
-    open-read-requires
-    read-full-requires
-    close-requires
-    parsed-requires
-    same-length
-    same-length-2
+    (search needs) (search needs) (search needs) (search needs) (search needs) (search needs)
     returns)

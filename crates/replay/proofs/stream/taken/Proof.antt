@@ -5,15 +5,6 @@ use Rattle.replay.proofs.Texts.{byte-digit, byte-idle, byte-full, byte-
 use Rattle.replay.proofs.stream.taken.Statement.{statement}
 use Rattle.replay.proofs.stream.taken.Tie as tie
 
-digit-requires : tie.Need-digit-requires
-digit-requires c κs = search needs
-
-mul-wrapping-add-u64 : tie.Need-mul-wrapping-add-u64
-mul-wrapping-add-u64 c = search needs
-
-wrapping-add-u64-requires : tie.Need-wrapping-add-u64-requires
-wrapping-add-u64-requires c κs = search needs
-
 returns : tie.Need-returns
 returns c =
     let t = c .before .before in
@@ -29,18 +20,6 @@ returns-3 c =
     let e = c .before .before .before in
     byte-full _ _ _ (e .before .digit .ensures) (e .if1 .left) (c .if3 .taken)
 
-add-next : tie.Need-add-next
-add-next c = search needs
-
-mul-numbers : tie.Need-mul-numbers
-mul-numbers c = search needs
-
-slice-write-numbers : tie.Need-slice-write-numbers
-slice-write-numbers c = search needs
-
-same-length : tie.Need-same-length
-same-length c = search needs
-
 returns-4 : tie.Need-returns-4
 returns-4 c =
     let e = c .before .before .before in
@@ -50,14 +29,9 @@ pub taken-spec : {M : Type 1} → statement M
 taken-spec =
     tie.close
     (tie.spec
-    digit-requires
-    mul-wrapping-add-u64
-    wrapping-add-u64-requires
+    (search needs) (search needs) (search needs)
     returns
     returns-2
     returns-3
-    add-next
-    mul-numbers
-    slice-write-numbers
-    same-length
+    (search needs) (search needs) (search needs) (search needs)
     returns-4)

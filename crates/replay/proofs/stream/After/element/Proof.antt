@@ -5,15 +5,6 @@ use borrow.Author.Needs.{needs}
 use Rattle.replay.proofs.stream.After.element.Statement.{statement}
 use Rattle.replay.proofs.stream.After.element.Tie as tie
 
-past-requires : tie.Need-past-requires
-past-requires c κs = search needs
-
-number-requires : tie.Need-number-requires
-number-requires c κs = search needs
-
-element-requires : tie.Need-element-requires
-element-requires c κs = search needs
-
 returns : tie.Need-returns
 unfolding elementAfter
 returns c = rw (lt-ltb _ _ (c .before .before .if1 .taken)) cc
@@ -24,4 +15,4 @@ returns-2 c = rw (le-ltb _ _ (c .before .if1 .left)) cc
 
 pub element-spec : {M : Type 1} → statement M
 element-spec =
-    tie.close (tie.spec past-requires number-requires element-requires returns returns-2)
+    tie.close (tie.spec (search needs) (search needs) (search needs) returns returns-2)

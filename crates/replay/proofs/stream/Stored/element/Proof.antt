@@ -5,12 +5,6 @@ use borrow.Author.Needs.{needs}
 use Rattle.replay.proofs.stream.Stored.element.Statement.{statement}
 use Rattle.replay.proofs.stream.Stored.element.Tie as tie
 
-past-requires : tie.Need-past-requires
-past-requires c κs = search needs
-
-number-requires : tie.Need-number-requires
-number-requires c κs = search needs
-
 returns : tie.Need-returns
 unfolding element
 returns c = rw (lt-ltb _ _ (c .before .before .if1 .taken)) cc
@@ -20,4 +14,4 @@ unfolding element
 returns-2 c = rw (le-ltb _ _ (c .if1 .left)) cc
 
 pub element-spec : {M : Type 1} → statement M
-element-spec = tie.close (tie.spec past-requires number-requires returns returns-2)
+element-spec = tie.close (tie.spec (search needs) (search needs) returns returns-2)

@@ -4,15 +4,9 @@ use Rattle.replay.specs.Lists.{workAt}
 use Rattle.replay.proofs.stream.Stored.work.Statement.{statement}
 use Rattle.replay.proofs.stream.Stored.work.Tie as tie
 
-number-requires : tie.Need-number-requires
-number-requires c κs = search needs
-
-past-requires : tie.Need-past-requires
-past-requires c κs = search needs
-
 returns : tie.Need-returns
 unfolding workAt
 returns c = cc
 
 pub work-spec : {M : Type 1} → statement M
-work-spec = tie.close (tie.spec number-requires past-requires returns)
+work-spec = tie.close (tie.spec (search needs) (search needs) returns)
