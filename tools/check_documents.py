@@ -1,10 +1,15 @@
 #!/usr/bin/env python3
-"""Looks whether what docs/PROMISES.md names is there: check_documents.py
+"""Looks whether the documents and the edits that must fail fit the tree: check_documents.py
 
-In each row: every file, every edit that must fail, and every name, in the file that is said to hold it. Prints what is missing, and how
-many rows there are.
+- docs/PROMISES.md: in each row every file, every edit that must fail, and every name, in the file that is said to hold it.
+- crates/*/must-fail: each edit names a file of its crate, its old text stands there once, and the new one is another.
+- README.md: the table of crates has each crate of crates.txt, below those that it stands on, and no other.
+- every link from one document to a file.
+
+Prints what is wrong, and how many of each there are.
 """
 
+import fnmatch
 import glob
 import os
 import re
@@ -95,14 +100,73 @@ def missing(row):
             before = word
 
 
-def main():
+def promises():
     rows = [line.strip().strip("|").split(" | ") for line in text(os.path.join(ROOT, "docs/PROMISES.md")).split("\n") if line.startswith("| ")]
     rows = [row for row in rows if row[0].strip() != "promise"]
-    faults = [f"{row[0].strip()[:60]}: {fault}" for row in rows for fault in missing(row)]
-    for fault in faults:
-        print(fault)
-    print(f"docs/PROMISES.md: {len(rows)} rows, {len(faults)} names missing")
-    return 1 if faults else 0
+    return len(rows), [f"{row[0].strip()[:60]}: {fault}" for row in rows for fault in missing(row)]
+
+
+def wrong(path):
+    """What is wrong with an edit, read as `rt must-fail` does: a file, then pairs of an old and a new text, each on what the one before left."""
+    home = os.path.dirname(os.path.dirname(path))
+    place, old, pairs, now = None, None, 0, {}
+    for line in text(path).split("\n"):
+        if line.startswith("file: "):
+            place = line[6:]
+            if not re.match("(src|specs)/", place) or not os.path.isfile(os.path.join(home, place)):
+                yield f"no file of src/ or specs/: {place}"
+                return
+            now.setdefault(place, text(os.path.join(home, place)))
+        elif line.startswith("old: ") and place and old is None:
+            old = line[5:]
+        elif line.startswith("new:") and old is not None:
+            new = line[4:].removeprefix(" ")
+            if now[place].count(old) != 1:
+                yield f"{now[place].count(old)} times in {place}, not once: {old}"
+            if new == old:
+                yield f"new is old: {old}"
+            now[place] = now[place].replace(old, new, 1)
+            old, pairs = None, pairs + 1
+        elif line and not line.startswith("#"):
+            yield f"a line out of place, or of no meaning: {line}"
+    if old is not None or pairs == 0:
+        yield "no pair of an old and a new text"
+
+
+def must_fail():
+    paths = sorted(glob.glob(os.path.join(CRATES, "*", "must-fail", "*.edit")))
+    return len(paths), [f"{os.path.relpath(path, ROOT)}: {fault}" for path in paths for fault in wrong(path)]
+
+
+def crates():
+    listed = {crate: below.split() for crate, below in re.findall(r"^(\w+):([^#\n]*)", text(os.path.join(ROOT, "crates.txt")), re.M)}
+    table = re.search(r"\| crate \| holds \|\n\|[-|]*\n((?:\|.*\n)*)", text(os.path.join(ROOT, "README.md")))[1]
+    rows = [re.findall("`([^`]+)`", line.split("|")[1]) for line in table.split("\n")[:-1]]
+    row = {crate: number for number, names in enumerate(rows) for name in names for crate in fnmatch.filter(listed, name)}
+    faults = [f"README.md has no row for the crate {crate}" for crate in listed if crate not in row]
+    faults += [f"README.md has a row for {name}, which is no crate" for names in rows for name in names if not fnmatch.filter(listed, name)]
+    faults += [f"README.md has {crate} above {each}, on which it stands" for crate in row for each in listed[crate] if row.get(each, 0) > row[crate]]
+    return len(listed), faults
+
+
+def links():
+    places = ("*.md", "docs/**/*.md", "compare/*.md", "vectors/*.md")
+    pages = [page for place in places for page in glob.glob(os.path.join(ROOT, place), recursive=True)]
+    named = [(page, link) for page in pages for link in re.findall(r"\]\(([^)#:]+)\)", text(page))]
+    return len(named), [
+        f"{os.path.relpath(page, ROOT)}: no file {link}" for page, link in named if not os.path.exists(os.path.join(os.path.dirname(page), link))]
+
+
+def main():
+    failed = False
+    looks = {"rows of docs/PROMISES.md": promises, "edits that must fail": must_fail, "crates in README.md": crates, "links": links}
+    for what, look in looks.items():
+        number, faults = look()
+        for fault in faults:
+            print(fault)
+        print(f"{number} {what}, {len(faults)} wrong")
+        failed = failed or bool(faults)
+    return 1 if failed else 0
 
 
 if __name__ == "__main__":

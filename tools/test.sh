@@ -1,7 +1,17 @@
 #!/bin/sh
-# The tests: every crate proved, every program run, every edit refused; then the C example, on what that left. The tally comes last.
+# The tests: the toolchain is the one that the file toolchain names; every crate proved, every program run, every edit refused; then the
+# C example, on what that left. The tally comes last.
 set -eu
 cd "$(dirname "$0")/.."
+named=$(cat toolchain)
+present=$(rt version) || {
+    echo "the command rt does not tell its version; this tree is proved with '$named' (file toolchain)" >&2
+    exit 1
+}
+if [ "$present" != "$named" ]; then
+    echo "rt version prints '$present', but the file toolchain names '$named': install that one, or name this one there and run the whole gate" >&2
+    exit 1
+fi
 log=$(mktemp)
 trap 'rm -f "$log"' EXIT
 rt fmt --check
