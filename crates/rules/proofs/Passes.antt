@@ -41,24 +41,17 @@ module _ (rule : Rule) (v : View) where
   judged-merge own (some c) e =
       case (lt (rule .dist own c) (rule .reach)) (λ y. (c, refl, λ z. rw y)) (λ z. absurd (false≢true (rw z at e)))
 
-  -- the verdict on a region, pending or not
-  abbrev decided : ℕ → Bool → Verdict
-  decided m b = let own = index (at (v .cells) m) in cond b (judged rule own (target rule (v .cells) own (table (rule .places) (voter rule v m)))) stay
-
-  decided-merge : (m : ℕ) (b : Bool) → merges (decided m b) ≡ true → (b ≡ true) × ((q : ℕ) × (q < rule .places) × (voter rule v m q ≡ true) × ((z : ℤ) → painted (decided m b) z ≡ pos (index (at (v .cells) q))))
-  unfolding target merges marked
-  decided-merge m false e = absurd (false≢true e)
-  decided-merge m true e =
-      let own = index (at (v .cells) m) in
-      let voters = table (rule .places) (voter rule v m) in
-      let j = judged-merge own (target rule (v .cells) own voters) e in
-      let w = frequent-voter voters (j .0) (least-some _ _ _ (j .0) (j .1) .1) in
-      (refl, (w .0, w .1, sym (table-at (rule .places) (voter rule v m) false (w .0) (w .1)) ∙ w .2, λ z. j .2 z ∙ ap pos (sym (w .3))))
-
   -- a region that is repainted was pending, and takes the index of some voter
   pub merge-why : (m : ℕ) → merges (verdict rule v m) ≡ true → (pending rule v m ≡ true) × ((q : ℕ) × (q < rule .places) × (voter rule v m q ≡ true) × ((z : ℤ) → painted (verdict rule v m) z ≡ pos (index (at (v .cells) q))))
-  unfolding verdict
-  merge-why m e = decided-merge m (pending rule v m) e
+  unfolding verdict target merges marked
+  merge-why m e =
+      let own = index (at (v .cells) m) in
+      let voters = table (rule .places) (voter rule v m) in
+      case (pending rule v m)
+      (λ y. let j = judged-merge own (target rule (v .cells) own voters) (rw y at e) in
+      let w = frequent-voter voters (j .0) (least-some _ _ _ (j .0) (j .1) .1) in
+      (y, (w .0, w .1, sym (table-at (rule .places) (voter rule v m) false (w .0) (w .1)) ∙ w .2, λ z. rw y (j .2 z ∙ ap pos (sym (w .3))))))
+      (λ z. absurd (false≢true (rw z at e)))
 
   pub pending-first : (m : ℕ) → pending rule v m ≡ true → first (v .cells) (v .root) m ≡ true
   unfolding pending
@@ -71,11 +64,7 @@ module _ (rule : Rule) (v : View) where
   -- a region that is frozen was pending
   pub freeze-why : (m : ℕ) → freezes (verdict rule v m) ≡ true → pending rule v m ≡ true
   unfolding verdict freezes
-  freeze-why m e = go (pending rule v m) e
-    where
-      go : (b : Bool) → freezes (decided m b) ≡ true → b ≡ true
-      go true u = refl
-      go false u = u
+  freeze-why m e = case (pending rule v m) (λ y. y) (λ z. absurd (false≢true (rw z at e)))
 
   -- where a place is marked as a voter, some index is a most frequent one
   pub frequent-some : (voters : List Bool) (q : ℕ) → q < rule .places → marked voters q ≡ true → ((p : ℕ) → p < rule .places → marked voters p ≡ true → opaque (v .cells) p ≡ true) → (c : ℕ) × (c < top rule (v .cells)) × (frequent rule (v .cells) voters c ≡ true)
@@ -109,13 +98,9 @@ module _ (rule : Rule) (v : View) where
   -- a pending region is repainted, frozen, or has no voter
   pub pending-then : (m : ℕ) → pending rule v m ≡ true → ((p : ℕ) → p < rule .places → voter rule v m p ≡ true → opaque (v .cells) p ≡ true) → (merges (verdict rule v m) ≡ true) ⊎ ((freezes (verdict rule v m) ≡ true) ⊎ ((q : ℕ) → q < rule .places → voter rule v m q ≡ false))
   unfolding verdict
-  pending-then m e o = go (pending rule v m) e
-    where
-      go : (b : Bool) → b ≡ true → (merges (decided m b) ≡ true) ⊎ ((freezes (decided m b) ≡ true) ⊎ ((q : ℕ) → q < rule .places → voter rule v m q ≡ false))
-      go true u =
-          ⊎-elim inl (λ w. inr (⊎-elim inl (λ z. inr (no-voter m (index (at (v .cells) m)) o z)) w))
-          (judged-cases (index (at (v .cells) m)) (target rule (v .cells) (index (at (v .cells) m)) (table (rule .places) (voter rule v m))))
-      go false u = absurd (false≢true u)
+  pending-then m e o =
+      let own = index (at (v .cells) m) in
+      rw e (⊎-elim inl (λ w. inr (⊎-elim inl (λ z. inr (no-voter m own o z)) w)) (judged-cases own (target rule (v .cells) own (table (rule .places) (voter rule v m)))))
 
   -- a small region that is not pending is locked or has a frozen cell
   pub not-pending : (m : ℕ) → pending rule v m ≡ false → first (v .cells) (v .root) m ≡ true → marked (v .large) m ≡ false → (rule .free (index (at (v .cells) m)) ≡ false) ⊎ (any (rule .places) (λ p. inside (v .cells) (v .root) m p && marked (v .frozen) p) ≡ true)
