@@ -146,7 +146,7 @@ visit-requires c κs =
     let s = start l in
     let u = l .loop .inv .0 in
     let f = u .flood .filled in
-    let o = offset-single (l .loop .k) (turn d .loop-test .taken) in (
+    let o = offset-single (l .loop .k) (omega (arith, turn d .loop-test .taken)) in (
       (bounds s .on, f .sized .rows, f .sized .cols, omega (arith, f .sized .planes, seen-size (n s) (l .loop .work))),
       (
         (rw (toZ-ofZ (rows-fit d)) (o .0), rw (toZ-ofZ (cols-fit d)) (o .1), border l),
