@@ -1,7 +1,7 @@
 // What every promise is written with: numbers below n taken as places, outputs filled from the front, and refusals.
 
 // The answer of an entry that gives nothing but its outputs.
-#[derive(Drop)]
+#[derive(Clone, Copy)]
 pub enum Filling {
     Done,
     Refused(u8),

@@ -4,8 +4,8 @@ use Rattle.base.specs.Outputs.{filled}
 use Rattle.base.specs.Refusals.{refusal, unless}
 use Rattle.base.specs.declared.Filling.{Filling}
 use Rattle.base.specs.declared.Filling.TheVariants as fillings
-use Rattle.hex.specs.declared.Hex.{Hex}
-use Rattle.hex.specs.declared.Hex.TheVariants as hexes
+use Rattle.hex_colour.specs.declared.Hex.{Hex}
+use Rattle.hex_colour.specs.declared.Hex.TheVariants as hexes
 use Rattle.rules.specs.declared.LineIndex.{LineIndex}
 use Rattle.rules.specs.declared.LineIndex.TheVariants.{Nothing, Entry}
 use Rattle.rules.specs.declared.Facts.{Facts}

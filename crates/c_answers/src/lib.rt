@@ -6,7 +6,7 @@ ghost use Rattle.c_answers.specs.Outcomes.{given, status, received, done, labell
 ghost use Rattle.c_answers.specs.Room.{FactsFit};
 
 use base::Filling;
-use hex::Hex;
+use hex_colour::Hex;
 use refusals::too_large;
 use rules::{Cleaning, Facts, Labelling, LineIndex, Outlining, Processing};
 

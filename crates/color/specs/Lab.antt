@@ -93,8 +93,8 @@ mat_vec m v = dot v (get_or m 0 []) ∷ dot v (get_or m 1 []) ∷ dot v (get_or 
 unfoldable pub lab_f : Float → Float
 lab_f t = cond (lt edge t) (cbrt_of t) (slope ⊗ t ⊕ shift)
 
-unfoldable pub lab_FInv : Float → Float
-lab_FInv t = cond (lt edge_inv t) (t ⊗ t ⊗ t) ((t ⊖ shift) ⊘ slope)
+unfoldable pub lab_f_inv : Float → Float
+lab_f_inv t = cond (lt edge_inv t) (t ⊗ t ⊗ t) ((t ⊖ shift) ⊘ slope)
 
 -- XYZ to CIELAB
 unfoldable pub lab_of_xyz : List Float → Lab
@@ -111,7 +111,7 @@ xyz_of_lab c =
     let x = c.a ⊘ decimal 500 0 ⊕ y in
     let z = y ⊖ c.b ⊘ decimal 200 0 in
     let z0 = cond (lt z (decimal 0 0)) (decimal 0 0) z in
-    lab_FInv x ⊗ get_or white 0 nan ∷ lab_FInv y ⊗ get_or white 1 nan ∷ lab_FInv z0 ⊗ get_or white 2 nan ∷ []
+    lab_f_inv x ⊗ get_or white 0 nan ∷ lab_f_inv y ⊗ get_or white 1 nan ∷ lab_f_inv z0 ⊗ get_or white 2 nan ∷ []
 
 -- sRGB to CIELAB, and back
 unfoldable pub rgb8_to_lab : Rgb8 → Lab

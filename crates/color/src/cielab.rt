@@ -1,7 +1,7 @@
 // CIELAB: the distance of two colours, and the ways to sRGB and back, formula for formula in the order of scikit-image's `rgb2lab` and `lab2rgb`.
 ghost use Rattle.std.specs.Prelude.{◌≡◌, ◌+◌, ◌*◌, ◌<◌, length};
 ghost use Rattle.std.specs.Float.Ieee.{lt};
-ghost use Rattle.color.specs.Lab.{entry, within, dist2, distance, dot, mat_vec, lab_f, lab_FInv, lab_of_xyz, xyz_of_lab, rgb8_to_lab, lab_to_rgb8};
+ghost use Rattle.color.specs.Lab.{entry, within, dist2, distance, dot, mat_vec, lab_f, lab_f_inv, lab_of_xyz, xyz_of_lab, rgb8_to_lab, lab_to_rgb8};
 ghost use Rattle.channel.specs.Channel.{DecodeTable, ThresholdTable};
 
 use crate::{Lab, Rgb8};
@@ -110,7 +110,7 @@ fn lab_f(t: f64) -> f64
 
 // Its inverse.
 fn lab_f_inv(t: f64) -> f64
-    ensures { result ≡ lab_FInv t }
+    ensures { result ≡ lab_f_inv t }
 {
     if t > EDGE_INV {
         t * t * t

@@ -2,7 +2,7 @@
 pub mod cielab;
 
 // A colour in CIELAB.
-#[derive(Drop)]
+#[derive(Clone, Copy)]
 pub struct Lab {
     pub l: f64,
     pub a: f64,
@@ -10,7 +10,7 @@ pub struct Lab {
 }
 
 // A colour in sRGB, a byte for each channel.
-#[derive(Drop)]
+#[derive(Clone, Copy)]
 pub struct Rgb8 {
     pub r: u8,
     pub g: u8,

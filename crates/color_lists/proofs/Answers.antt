@@ -13,7 +13,7 @@ use borrow.Author.Tests.{ltb-true, ltb-false, lt-ltb, le-ltb, eqb-true, not_fals
 use Rattle.base.specs.Refusals.{refusal}
 use Rattle.base.proofs.Counting.{same_test, neither}
 use Rattle.base.proofs.Refusing.{rows_none}
-use Rattle.color_lists.specs.Entries.{colours, ragged, crowded, rgb8_to_lab_rows, lab_to_rgb8_rows, delta_ERows, matrix_rows, nearest_rows}
+use Rattle.color_lists.specs.Entries.{colours, ragged, crowded, rgb8_to_lab_rows, lab_to_rgb8_rows, delta_e_rows, matrix_rows, nearest_rows}
 
 -- ---- a square is more than room, told by a quotient
 
@@ -36,8 +36,8 @@ pub lab-to_rgb8_room : (lab : List Float) (room : ℕ) → refusal (lab_to_rgb8_
 unfolding lab_to_rgb8_rows
 lab-to_rgb8_room lab room e = ltb-false room (3 * colours lab) (rows_none _ _ e).0
 
-pub delta_e_room : (a b : List Float) (room : ℕ) → refusal (delta_ERows a b room) ≡ none → (length a ≡ length b) × (colours a ≤ room)
-unfolding delta_ERows
+pub delta_e_room : (a b : List Float) (room : ℕ) → refusal (delta_e_rows a b room) ≡ none → (length a ≡ length b) × (colours a ≤ room)
+unfolding delta_e_rows
 delta_e_room a b room e =
     let p = rows_none _ _ e in
     let q = rows_none _ _ p.1 in

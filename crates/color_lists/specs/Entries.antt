@@ -77,17 +77,17 @@ unfoldable pub delta_at : List Float → List Float → ℕ → Float
 delta_at a b i = distance (entry a i) (entry b i)
 
 -- when `delta_e` refuses
-unfoldable pub delta_ERows : List Float → List Float → ℕ → List Row
-delta_ERows a b room =
+unfoldable pub delta_e_rows : List Float → List Float → ℕ → List Row
+delta_e_rows a b room =
     row 2 (ltb room (colours a))
     ∷ row 4 (ragged a || ragged b || not (eqb (length a) (length b)))
     ∷ row 5 (strays a || strays b)
     ∷ []
 
 -- its output afterwards
-unfoldable pub delta_EOut : List Float → List Float → List Float → List Float
-delta_EOut a b out =
-    written (delta_ERows a b (length out)) out (filled (colours a) (delta_at a b) out)
+unfoldable pub delta_e_out : List Float → List Float → List Float → List Float
+delta_e_out a b out =
+    written (delta_e_rows a b (length out)) out (filled (colours a) (delta_at a b) out)
 
 -- the number i of the matrix, which has row after row
 unfoldable pub matrix_at : List Float → ℕ → Float

@@ -3,7 +3,7 @@ ghost use Rattle.std.specs.Prelude.{◌≡◌, [], ◌∷◌, ◌+◌, ◌*◌, 
 ghost use Rattle.base.specs.Outputs.{filled};
 ghost use Rattle.base.specs.Refusals.{row, refusal, filling};
 ghost use Rattle.color_lists.specs.Entries.{colours, strays, byte_entry, lab_at, rgb8_at, delta_at, matrix_at, nearest_at, closer, best_of};
-ghost use Rattle.color_lists.specs.Entries.{rgb8_to_lab_rows, rgb8_to_lab_out, lab_to_rgb8_rows, lab_to_rgb8_out, delta_ERows, delta_EOut, matrix_rows, matrix_out, nearest_rows, nearest_out};
+ghost use Rattle.color_lists.specs.Entries.{rgb8_to_lab_rows, rgb8_to_lab_out, lab_to_rgb8_rows, lab_to_rgb8_out, delta_e_rows, delta_e_out, matrix_rows, matrix_out, nearest_rows, nearest_out};
 ghost use Rattle.channel.specs.Channel.{DecodeTable, ThresholdTable};
 
 use base::Filling;
@@ -148,7 +148,7 @@ pub fn lab_to_rgb8(lab: &[f64], out: &mut [u8]) -> Filling
 
 // The answer of `delta_e` for an output of the length room.
 fn delta_e_answer(a: &[f64], b: &[f64], room: usize) -> Filling
-    ensures { result ≡ filling (refusal (delta_ERows a.now b.now room)) }
+    ensures { result ≡ filling (refusal (delta_e_rows a.now b.now room)) }
 {
     let short = room < a.len() / 3;
     let uneven = (a.len() % 3 != 0) | (b.len() % 3 != 0) | (a.len() != b.len());
@@ -169,8 +169,8 @@ fn fill_delta_e(a: &[f64], b: &[f64], out: &mut [f64])
 
 // The distances of the colours of two lists, pair by pair.
 pub fn delta_e(a: &[f64], b: &[f64], out: &mut [f64]) -> Filling
-    ensures value { result ≡ filling (refusal (delta_ERows a.now b.now (length out.old))) }
-    ensures out_after { out.new ≡ delta_EOut a.now b.now out.old }
+    ensures value { result ≡ filling (refusal (delta_e_rows a.now b.now (length out.old))) }
+    ensures out_after { out.new ≡ delta_e_out a.now b.now out.old }
 {
     let answer = delta_e_answer(a, b, out.len());
     if let Filling::Done = answer {
@@ -225,7 +225,7 @@ pub fn palette_distance_matrix(palette: &[f64], out: &mut [f64]) -> Filling
 }
 
 // A palette's entry with the square of its distance.
-#[derive(Drop)]
+#[derive(Clone, Copy)]
 struct Best {
     index: usize,
     square: f64,

@@ -8,7 +8,7 @@ ghost use Rattle.verdicts.specs.Groups.{Group};
 ghost use Rattle.frontier.specs.Growing.{Listed, Matches, MatchesAround, MatchesLogged, Enlarged, Repainted, Growth, Gained, Decided, Grew};
 
 use crate::regions::set_region;
-use grid::{Grid, Move, OFFSETS8, Step, on_edge_lem, reached};
+use grid::{Grid, Move, OFFSETS8, Step, on_edge, reached};
 use verdicts::{region_size, region_span, step_count};
 
 // Of the first `count` groups those of at least `limit` places are large.
@@ -142,7 +142,7 @@ fn absorb_beside(work: &mut [u32], grid: Grid, p: usize, from: usize) -> usize
     if !small_near(work, n, grid.w, p, paint) {
         return from;
     }
-    let border = on_edge_lem(p, grid.h, grid.w);
+    let border = on_edge(p, grid.h, grid.w);
     let offsets = OFFSETS8;
     let steps = step_count(grid);
     let mut end = from;

@@ -7,7 +7,7 @@ ghost use Rattle.verdicts.specs.Judging.{rule_of};
 ghost use Rattle.frontier.specs.Judging.{small_label, Noted, Stage, Met, Small, Around, AroundLogged};
 
 use crate::regions::set_region;
-use grid::{Grid, Move, OFFSETS8, Step, on_edge_lem, reached};
+use grid::{Grid, Move, OFFSETS8, Step, on_edge, reached};
 use verdicts::{Criteria, region_span, step_count, verdict};
 
 // The region with the label at + 1 is decided, if it can be: frozen at once, or logged at `end` to be repainted. The log's end then.
@@ -79,7 +79,7 @@ fn judge_beside(
     requires p_bound { p < area_of grid }
     ensures { Met (rule_of grid by palette.now) grid by.k (Small (area_of grid) work.old (λ q. adjoins grid p q ≡ true)) work.old work.new from result }
 {
-    let border = on_edge_lem(p, grid.h, grid.w);
+    let border = on_edge(p, grid.h, grid.w);
     let offsets = OFFSETS8;
     let steps = step_count(grid);
     let mut end = from;

@@ -7,14 +7,14 @@ ghost use Rattle.rules.specs.Grid.{on_edge, on_side, step_to};
 ghost use Rattle.grid.specs.Steps.{step_of, Single, Inner};
 
 // What a step from a cell finds.
-#[derive(Drop)]
+#[derive(Clone, Copy)]
 pub enum Step {
     Cell(usize),
     Off,
 }
 
 // A grid of h rows of w cells, and how many of the eight steps lead from a cell to its neighbours: the first four, or all.
-#[derive(Drop)]
+#[derive(Clone, Copy)]
 pub struct Grid {
     pub h: usize,
     pub w: usize,
@@ -22,7 +22,7 @@ pub struct Grid {
 }
 
 // A step from the place p, by dy rows and dx columns; unless `border`, p lies on no edge.
-#[derive(Drop)]
+#[derive(Clone, Copy)]
 pub struct Move {
     pub p: usize,
     pub dy: i32,
@@ -76,7 +76,7 @@ pub fn neighbour(y: usize, x: usize, dy: i32, dx: i32, h: usize, w: usize) -> St
 }
 
 // Whether the place p lies on the border of the grid.
-pub fn on_edge_lem(p: usize, h: usize, w: usize) -> bool
+pub fn on_edge(p: usize, h: usize, w: usize) -> bool
     requires { (p < h * w) × (h ≤ 514) × (w ≤ 514) }
     ensures { result ≡ on_edge h w p }
 {

@@ -13,7 +13,7 @@ use grid::{Step, neighbour};
 use refusals::sheet_refusal;
 
 // Row y and column x of a sheet of h rows of w cells.
-#[derive(Drop)]
+#[derive(Clone, Copy)]
 struct Spot {
     y: usize,
     x: usize,

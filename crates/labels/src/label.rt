@@ -8,7 +8,7 @@ ghost use Rattle.grid.specs.Planes.{plane, cells_of, Labelled};
 ghost use Rattle.labels.specs.Filling.{Sized, seen, Coded, blanks, Filled, Shut, Flood, Begun, Alone, Tinted, LabelledTo, PlanesKept, Since, Visited, word_of, Cleared};
 
 use crate::Tally;
-use grid::{Grid, Move, OFFSETS8, Step, on_edge_lem, reached};
+use grid::{Grid, Move, OFFSETS8, Step, on_edge, reached};
 
 // No label is above it. A place without a label has in plane 1 its paint and this more.
 const MOST: u32 = 264196;
@@ -52,7 +52,7 @@ fn visit_all(work: &mut [u32], g: Grid, head: usize, code: u32, from: Tally) -> 
     let w = g.w;
     let n = h * w;
     let p = work[2 * n + head] as usize;
-    let border = on_edge_lem(p, h, w);
+    let border = on_edge(p, h, w);
     let offsets = OFFSETS8;
     let steps = g.steps;
     let mut t = from;

@@ -11,7 +11,7 @@ use refusals::grid_refusal;
 use rules::Labelling;
 
 // The regions numbered so far, and how many places of the order are taken.
-#[derive(Drop)]
+#[derive(Clone, Copy)]
 pub struct Tally {
     pub regions: u32,
     pub taken: usize,

@@ -12,7 +12,7 @@ use color::{Lab, Rgb8};
 use rules::Outline;
 
 // The least value that a scan has met, and where it stands.
-#[derive(Drop)]
+#[derive(Clone, Copy)]
 pub enum Least {
     Nothing,
     At(usize, f64),
@@ -103,7 +103,7 @@ fn same_rgb8(x: Rgb8, y: Rgb8) -> bool
 }
 
 // A place that was looked for.
-#[derive(Drop)]
+#[derive(Clone, Copy)]
 pub enum Found {
     At(usize),
     Nowhere,
@@ -143,7 +143,7 @@ fn recolour(palette: &mut [f64], i: usize, c: Lab)
 }
 
 // The entry that carries the outline's colour, and how many entries there are with it.
-#[derive(Drop)]
+#[derive(Clone, Copy)]
 pub struct Chosen {
     pub index: usize,
     pub colours: usize,

@@ -8,7 +8,7 @@ use crate::stream::{After, Stored, number, past};
 use libc::STDOUT_FILENO;
 
 // The place up to which a case was read, and whether all was the same so far.
-#[derive(Drop)]
+#[derive(Clone, Copy)]
 pub struct Comparison {
     pub at: usize,
     pub same: bool,

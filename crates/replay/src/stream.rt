@@ -37,7 +37,7 @@ fn digit(c: u8) -> u64
 }
 
 // How many numbers are read, the one that is being read, and whether a digit of it is there.
-#[derive(Drop)]
+#[derive(Clone, Copy)]
 struct Reading {
     count: usize,
     value: u64,
@@ -93,7 +93,7 @@ fn parsed(text: &[u8], n: usize, numbers: &mut [u64]) -> usize
 }
 
 // What was read of a file: how many bytes of it stand at the front of the text, and how many numbers were put.
-#[derive(Drop)]
+#[derive(Clone, Copy)]
 pub struct Loaded {
     pub bytes: usize,
     pub count: usize,
@@ -129,7 +129,7 @@ pub fn past(at: usize, count: usize) -> usize
 }
 
 // A list among the numbers: its length, how many of its first elements are given, and the place of the first.
-#[derive(Drop)]
+#[derive(Clone, Copy)]
 pub struct Stored {
     pub len: usize,
     pub given: usize,
@@ -179,7 +179,7 @@ impl Stored {
 }
 
 // A list after a call: how many of its first elements are given, the place of the first, and the list that it was before, whose elements all others are.
-#[derive(Drop)]
+#[derive(Clone, Copy)]
 pub struct After {
     pub before: Stored,
     pub given: usize,

@@ -16,7 +16,7 @@ use rules::{Drawing, PostConfig};
 use saturation::scaling::scaled_too_far;
 
 // What `run` is told besides the sheet and the palette.
-#[derive(Drop)]
+#[derive(Clone, Copy)]
 pub struct Options {
     pub config: PostConfig,
     pub saturated: bool,

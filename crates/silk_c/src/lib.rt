@@ -1,8 +1,8 @@
 // The entries for C, on numbers and slices: each answers 0 for an accepted call, or the refusal's number.
 ghost use Rattle.std.specs.Prelude.{◌≡◌, [], ◌∷◌, ltb, length};
 ghost use Rattle.base.specs.Refusals.{row, refusal, unless, filling};
-ghost use Rattle.color_lists.specs.Entries.{rgb8_to_lab_rows, rgb8_to_lab_out, lab_to_rgb8_rows, lab_to_rgb8_out, delta_ERows, delta_EOut, matrix_rows, matrix_out, nearest_rows, nearest_out};
-ghost use Rattle.hex.specs.Hex.{hex_to_rgb8};
+ghost use Rattle.color_lists.specs.Entries.{rgb8_to_lab_rows, rgb8_to_lab_out, lab_to_rgb8_rows, lab_to_rgb8_out, delta_e_rows, delta_e_out, matrix_rows, matrix_out, nearest_rows, nearest_out};
+ghost use Rattle.hex_colour.specs.Hex.{hex_to_rgb8};
 ghost use Rattle.rules.specs.Palette.{palette_of};
 ghost use Rattle.rules.specs.Masks.{is_set, regions_answer, regions_labels, mask_answer, mask_labels, dilation_answer, dilation_out};
 ghost use Rattle.rules.specs.Entries.{orphans_answer, orphans_cells, jaggies_answer, jaggies_cells, outline_answer, outline_cells, outline_palette, saturation_answer, saturation_palette, run_answer, run_cells, run_palette};
@@ -38,8 +38,8 @@ pub extern "C" fn silk_lab_to_rgb8(lab: &[f64], out: &mut [u8]) -> u32
 // The distances of the colours of two lists, pair by pair.
 #[unsafe(no_mangle)]
 pub extern "C" fn silk_delta_e(a: &[f64], b: &[f64], out: &mut [f64]) -> u32
-    ensures value { result ≡ status (done (filling (refusal (delta_ERows a.now b.now (length out.old))))) }
-    ensures out_after { out.new ≡ delta_EOut a.now b.now out.old }
+    ensures value { result ≡ status (done (filling (refusal (delta_e_rows a.now b.now (length out.old))))) }
+    ensures out_after { out.new ≡ delta_e_out a.now b.now out.old }
 {
     number(color_lists::delta_e(a, b, out))
 }
@@ -71,7 +71,7 @@ pub extern "C" fn silk_hex_to_rgb8(text: &[u8], out: &mut [u8]) -> u32
     if out.len() < 3 {
         return 2;
     }
-    let answer = hex::hex_to_rgb8(text);
+    let answer = hex_colour::hex_to_rgb8(text);
     tell_colour(answer, out)
 }
 

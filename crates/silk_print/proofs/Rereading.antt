@@ -13,10 +13,10 @@ use lib.Seq.{drop-append_seam}
 use borrow.Author.Tests.{ltb-true, ltb-false, eq-eqb, ne_eqb}
 use Rattle.base.specs.Places.{any}
 use Rattle.base.proofs.Counting.{case}
-use Rattle.hex.specs.Hex.{space, mark, drop_while, stripped, digit, all_digits, pair, six_digits, hex_to_rgb8}
+use Rattle.hex_colour.specs.Hex.{space, mark, drop_while, stripped, digit, all_digits, pair, six_digits, hex_to_rgb8}
 use Rattle.color.specs.declared.Rgb8.{Rgb8}
-use Rattle.hex.specs.declared.Hex.TheVariants.{Colour}
-use Rattle.hex.proofs.Digits.{space_no, digit-decimal, digit-small}
+use Rattle.hex_colour.specs.declared.Hex.TheVariants.{Colour}
+use Rattle.hex_colour.proofs.Digits.{space_no, digit-decimal, digit-small}
 use Rattle.silk_reader.specs.Reader.{got, chain, ◌>>=◌, ◌>>◌, give, codes, bytes, newline, take_while, span, in_line, is_digit, value, proper, proper_number, number, natural, minus, negative, at_minus, cell, cell_at}
 use Rattle.silk_reader.specs.Lines.{hex_of, hex_line, colour_line}
 use Rattle.silk_print.specs.Claims.{InBytes}

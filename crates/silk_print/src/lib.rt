@@ -10,7 +10,7 @@ use color::cielab::{entry, lab_to_rgb8_by};
 use rules::{Facts, LineIndex};
 
 // What printing comes to: how many bytes were put, or a refusal's number.
-#[derive(Drop)]
+#[derive(Clone, Copy)]
 pub enum Printed {
     Bytes(usize),
     Refused(u8),

@@ -17,7 +17,7 @@ use Rattle.silk_reader.specs.Answers.{got_number, Decimal}
 use Rattle.silk_reader.specs.declared.Cursor.{Cursor}
 use Rattle.silk_reader.specs.declared.NumberRead.{NumberRead}
 use Rattle.silk_reader.specs.declared.NumberRead
-use Rattle.hex.specs.Hex.{hex_to_rgb8}
+use Rattle.hex_colour.specs.Hex.{hex_to_rgb8}
 use Rattle.silk_reader.proofs.Chaining.{known, chain_first}
 
 -- ---- digits

@@ -2,10 +2,10 @@
 use Rattle.std.specs.Prelude.{ℕ, ◌||◌, [], ◌∷◌, ltb, pos, Float}
 use Rattle.base.specs.Refusals.{row, refusal, unless}
 use Rattle.base.specs.Doubles.{◌⊘◌, decimal}
-use Rattle.hex.specs.Hex.{hex_to_rgb8}
+use Rattle.hex_colour.specs.Hex.{hex_to_rgb8}
 use Rattle.color.specs.declared.Rgb8.{Rgb8}
-use Rattle.hex.specs.declared.Hex.{Hex}
-use Rattle.hex.specs.declared.Hex as hex
+use Rattle.hex_colour.specs.declared.Hex.{Hex}
+use Rattle.hex_colour.specs.declared.Hex as hex
 use Rattle.rules.specs.declared.Outline.{Outline}
 use Rattle.rules.specs.declared.Outline as outline
 use Rattle.silk_reader.specs.declared.head.OutlineKind.{OutlineKind}

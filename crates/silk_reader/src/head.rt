@@ -8,34 +8,34 @@ use color::Rgb8;
 use rules::{Outline, PostConfig};
 
 // The outline that is asked for, before its darkening is read.
-#[derive(Drop)]
+#[derive(Clone, Copy)]
 pub enum OutlineKind {
     Nothing,
     Auto,
     Explicit(Rgb8),
 }
 
-#[derive(Drop)]
+#[derive(Clone, Copy)]
 pub enum OutlineRead {
     Value(OutlineKind, Cursor),
     Refused(u8),
 }
 
-#[derive(Drop)]
+#[derive(Clone, Copy)]
 pub struct Sizes {
     pub height: usize,
     pub width: usize,
     pub colours: usize,
 }
 
-#[derive(Drop)]
+#[derive(Clone, Copy)]
 pub enum SizesRead {
     Value(Sizes, Cursor),
     Malformed,
 }
 
 // The settings of saturation, cleaning and corners.
-#[derive(Drop)]
+#[derive(Clone, Copy)]
 pub struct Passes {
     pub beta: f64,
     pub orphans: bool,
@@ -44,14 +44,14 @@ pub struct Passes {
     pub jaggies: bool,
 }
 
-#[derive(Drop)]
+#[derive(Clone, Copy)]
 pub enum PassesRead {
     Value(Passes, Cursor),
     Malformed,
 }
 
 // The settings after the outline.
-#[derive(Drop)]
+#[derive(Clone, Copy)]
 pub struct Options {
     pub darken: u32,
     pub tileset: bool,
@@ -60,14 +60,14 @@ pub struct Options {
     pub fixed: bool,
 }
 
-#[derive(Drop)]
+#[derive(Clone, Copy)]
 pub enum OptionsRead {
     Value(Options, Cursor),
     Malformed,
 }
 
 // What the head says.
-#[derive(Drop)]
+#[derive(Clone, Copy)]
 pub struct Head {
     pub height: usize,
     pub width: usize,
@@ -78,7 +78,7 @@ pub struct Head {
     pub fixed: bool,
 }
 
-#[derive(Drop)]
+#[derive(Clone, Copy)]
 pub enum HeadRead {
     Value(Head, Cursor),
     Refused(u8),

@@ -8,44 +8,44 @@ ghost use Rattle.silk_reader.specs.Answers.{got_bytes, got_number, got_switch, g
 ghost use Rattle.silk_reader.specs.Lines.{hex_line};
 
 use color::Rgb8;
-use hex::{Hex, hex_to_rgb8};
+use hex_colour::{Hex, hex_to_rgb8};
 
 // The place of the next byte.
-#[derive(Drop)]
+#[derive(Clone, Copy)]
 pub struct Cursor {
     pub at: usize,
 }
 
 // What reading fixed bytes comes to.
-#[derive(Drop)]
+#[derive(Clone, Copy)]
 pub enum BytesRead {
     To(Cursor),
     Malformed,
 }
 
 // What reading a number comes to.
-#[derive(Drop)]
+#[derive(Clone, Copy)]
 pub enum NumberRead {
     Value(u32, Cursor),
     Malformed,
 }
 
 // What reading a switch comes to.
-#[derive(Drop)]
+#[derive(Clone, Copy)]
 pub enum SwitchRead {
     Value(bool, Cursor),
     Malformed,
 }
 
 // What reading a cell comes to.
-#[derive(Drop)]
+#[derive(Clone, Copy)]
 pub enum CellRead {
     Value(i32, Cursor),
     Malformed,
 }
 
 // What reading a colour comes to.
-#[derive(Drop)]
+#[derive(Clone, Copy)]
 pub enum ColourRead {
     Value(Rgb8, Cursor),
     Refused(u8),

@@ -91,7 +91,7 @@ pub fn respond(text: &[u8], out: &mut [u8; ROOM]) -> usize
 }
 
 // What `serve` did: how many bytes it read to the front of the text, how many of the answer it handed on, and whether all of these were written.
-#[derive(Drop)]
+#[derive(Clone, Copy)]
 pub struct Served {
     pub read: usize,
     pub put: usize,

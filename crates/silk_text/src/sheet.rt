@@ -12,14 +12,14 @@ use silk_reader::head::{Head, HeadRead};
 use silk_reader::{BytesRead, CellRead, ColourRead, Cursor};
 
 // What reading into a lent list comes to.
-#[derive(Drop)]
+#[derive(Clone, Copy)]
 pub enum ListRead {
     To(Cursor),
     Refused(u8),
 }
 
 // What a text comes to: a head, with the cells and the palette in the lent lists.
-#[derive(Drop)]
+#[derive(Clone, Copy)]
 pub enum Parsed {
     Sheet(Head),
     Refused(u8),
@@ -178,7 +178,7 @@ fn read_text(text: &[u8], palette: &mut [f64], cells: &mut [i32]) -> Parsed
 }
 
 // How many doubles and how many cells were read.
-#[derive(Drop)]
+#[derive(Clone, Copy)]
 struct Counts {
     doubles: usize,
     cells: usize,

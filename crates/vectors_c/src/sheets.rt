@@ -56,7 +56,7 @@ pub fn fix_jaggies(numbers: &[u64], at: usize) -> Comparison {
 }
 
 // What an outline's numbers say: its kind, the darkening, and the triple.
-#[derive(Drop)]
+#[derive(Clone, Copy)]
 struct Line {
     kind: u32,
     darken: f64,
@@ -116,7 +116,7 @@ pub fn apply_saturation(numbers: &[u64], at: usize) -> Comparison {
 }
 
 // The settings of `run`: beta, orphans, region limit, colour limit and jaggies, then the outline's, tileset, saturated, fixed and margin.
-#[derive(Drop)]
+#[derive(Clone, Copy)]
 struct Settings {
     beta: f64,
     orphans: u8,

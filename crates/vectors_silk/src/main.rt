@@ -15,7 +15,7 @@ const CASES: usize = 262144;
 const LINE: usize = 131072;
 
 // What stands at a place of the file: so many times a byte. The next place follows.
-#[derive(Drop)]
+#[derive(Clone, Copy)]
 struct Bytes {
     byte: u8,
     many: usize,
@@ -23,7 +23,7 @@ struct Bytes {
 }
 
 // A line that was read: how many bytes it stands for, and the place after it.
-#[derive(Drop)]
+#[derive(Clone, Copy)]
 struct Read {
     len: usize,
     next: usize,
@@ -170,7 +170,7 @@ fn told(name: &[u8], text: &[u8], answer: &[u8]) -> u64
 }
 
 // A case that was replayed: the place after it, and 1 if its answer differs.
-#[derive(Drop)]
+#[derive(Clone, Copy)]
 struct Replayed {
     next: usize,
     differs: u64,

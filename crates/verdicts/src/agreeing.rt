@@ -6,7 +6,7 @@ ghost use Rattle.verdicts.specs.Agreeing.{joined, asked, asked_beside, asked_aro
 
 use crate::large::Span;
 use crate::step_count;
-use grid::{Grid, Move, OFFSETS8, Step, on_edge_lem, reached};
+use grid::{Grid, Move, OFFSETS8, Step, on_edge, reached};
 
 // More than every paint: the cells asked so far have several.
 const SEVERAL: u32 = 257;
@@ -44,7 +44,7 @@ fn ask_beside(work: &[u32], grid: Grid, p: usize, so_far: u32) -> u32
     requires { GroupedSheet grid work.now × (p < area_of grid) }
     ensures { result ≡ asked_beside grid work.now p grid.steps so_far }
 {
-    let border = on_edge_lem(p, grid.h, grid.w);
+    let border = on_edge(p, grid.h, grid.w);
     let offsets = OFFSETS8;
     let steps = step_count(grid);
     let mut found = so_far;

@@ -17,7 +17,7 @@ fn region_end(work: &[u32], n: usize, label: usize) -> u32
 }
 
 // Where the places of a region stand in the order: from `from` on and before `to`.
-#[derive(Drop)]
+#[derive(Clone, Copy)]
 pub struct Span {
     pub from: usize,
     pub to: usize,

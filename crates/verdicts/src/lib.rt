@@ -17,7 +17,7 @@ use grid::Grid;
 pub use large::{Span, region_size, region_span};
 
 // What a verdict goes by: the entries of the palette that are in use, the region limit and the colour limit.
-#[derive(Drop)]
+#[derive(Clone, Copy)]
 pub struct Criteria {
     pub k: usize,
     pub limit: u32,

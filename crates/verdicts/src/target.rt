@@ -6,7 +6,7 @@ ghost use Rattle.verdicts.specs.declared.target.Target.TheVariants.{Index};
 use color::cielab::{closer_than, distance, entry};
 
 // The index that a region may take, and its distance from the region's own.
-#[derive(Drop)]
+#[derive(Clone, Copy)]
 pub enum Target {
     Nothing,
     Index(usize, f64),

@@ -7,7 +7,7 @@ ghost use Rattle.verdicts.specs.Polling.{Tallied, Polled, Beside};
 
 use crate::large::Span;
 use crate::step_count;
-use grid::{Grid, Move, OFFSETS8, Step, on_edge_lem, reached};
+use grid::{Grid, Move, OFFSETS8, Step, on_edge, reached};
 
 // The cell q votes, if it is large and has not voted.
 fn ask(work: &mut [u32], n: usize, q: usize, mark: u32, counts: &mut [u32; 256])
@@ -48,7 +48,7 @@ fn vote_all(work: &mut [u32], grid: Grid, p: usize, mark: u32, counts: &mut [u32
     requires tallied { Tallied (area_of grid) work.old mark counts.old }
     ensures { Polled (area_of grid) mark (λ q. adjoins grid p q ≡ true) work.old work.new counts.new }
 {
-    let border = on_edge_lem(p, grid.h, grid.w);
+    let border = on_edge(p, grid.h, grid.w);
     let offsets = OFFSETS8;
     let steps = step_count(grid);
     for s in 0..8 {

@@ -1,6 +1,6 @@
 -- `delta_e_answer` meets its contract: row by row. Assumes nothing.
 use Rattle.base.specs.Refusals.{refusal}
-use Rattle.color_lists.specs.Entries.{colours, ragged, delta_ERows}
+use Rattle.color_lists.specs.Entries.{colours, ragged, delta_e_rows}
 use Rattle.color_lists.proofs.delta_e_answer.Statement.{statement}
 use Rattle.color_lists.proofs.delta_e_answer.Tie as tie
 
@@ -14,7 +14,7 @@ told-requires : tie.Need-told-requires
 told-requires c κs = tt
 
 returns : tie.Need-returns
-unfolding refusal delta_ERows colours ragged
+unfolding refusal delta_e_rows colours ragged
 returns c = rw (c.before.before.strays.ensures, c.before.strays2.ensures) at c.told.ensures
 
 pub delta-e-answer-spec : {M : Type 1} → statement M

@@ -1,9 +1,9 @@
 -- `is_space` meets its contract: a law for each way through the match. Assumes nothing.
 use mathlib.Core.Logic.{inl, inr}
 use native.Mathlib.Omega.{arith}
-use Rattle.hex.proofs.Digits.{space-low, space_blank, space_no}
-use Rattle.hex.proofs.is_space.Statement.{statement}
-use Rattle.hex.proofs.is_space.Tie as tie
+use Rattle.hex_colour.proofs.Digits.{space-low, space_blank, space_no}
+use Rattle.hex_colour.proofs.is_space.Statement.{statement}
+use Rattle.hex_colour.proofs.is_space.Tie as tie
 
 returns : tie.Need-returns
 returns c = space_no (inl c.if1.true) c.before.match.rest.1

@@ -1,8 +1,8 @@
 -- Colours written as six hex digits. Definitions only. Assumes nothing.
 use Rattle.std.specs.Prelude.{ℕ, ◌+◌, ◌-◌, ◌*◌, Bool, not, ◌&&◌, ◌||◌, cond, List, [], ◌∷◌, reverse, leb, eqb, length, get_or}
 use Rattle.base.specs.Places.{any}
-use Rattle.hex.specs.declared.Hex.{Hex}
-use Rattle.hex.specs.declared.Hex.TheVariants.{Colour, Refused}
+use Rattle.hex_colour.specs.declared.Hex.{Hex}
+use Rattle.hex_colour.specs.declared.Hex.TheVariants.{Colour, Refused}
 
 -- a to b, both among them
 unfoldable pub in_range : ℕ → ℕ → ℕ → Bool

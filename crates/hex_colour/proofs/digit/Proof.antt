@@ -1,9 +1,9 @@
 -- `digit` meets its contract: a law for each way through the match. Assumes nothing.
 use mathlib.Core.Logic.{inl, inr}
 use native.Mathlib.Omega.{arith}
-use Rattle.hex.proofs.Digits.{digit-decimal, digit-small, digit_capital, digit_no}
-use Rattle.hex.proofs.digit.Statement.{statement}
-use Rattle.hex.proofs.digit.Tie as tie
+use Rattle.hex_colour.proofs.Digits.{digit-decimal, digit-small, digit_capital, digit_no}
+use Rattle.hex_colour.proofs.digit.Statement.{statement}
+use Rattle.hex_colour.proofs.digit.Tie as tie
 
 add-result : tie.Need-overflow-add-result
 add-result c = omega arith

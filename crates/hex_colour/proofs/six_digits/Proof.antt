@@ -3,9 +3,9 @@ use mathlib.Core.Path.{◌≡◌, sym, ◌∙◌}
 use mathlib.Core.Bool.{true, false}
 use native.Mathlib.Omega.{arith}
 use borrow.Author.Tests.{eq-eqb, ne_eqb, not_true, not_false}
-use Rattle.hex.specs.Hex.{all_digits, six_digits}
-use Rattle.hex.proofs.six_digits.Statement.{statement}
-use Rattle.hex.proofs.six_digits.Tie as tie
+use Rattle.hex_colour.specs.Hex.{all_digits, six_digits}
+use Rattle.hex_colour.proofs.six_digits.Statement.{statement}
+use Rattle.hex_colour.proofs.six_digits.Tie as tie
 
 digits : (c : tie.Else2) → all_digits c.before.before.before.before.args.text.now ≡ true
 digits c = sym c.before.all_digits.ensures ∙ not_false _ c.if2.false

@@ -3,10 +3,10 @@ use mathlib.Core.Path.{sym, ◌∙◌}
 use mathlib.Core.Logic.{⊎_elim}
 use native.Mathlib.Omega.{arith}
 use lib.Seq.{length-take-le}
-use Rattle.hex.specs.Hex.{space}
-use Rattle.hex.proofs.Skipping.{Stripped, stripped_none, stripped-more, stripped-to, stripped_all}
-use Rattle.hex.proofs.without_trailing_space.Statement.{statement}
-use Rattle.hex.proofs.without_trailing_space.Tie as tie
+use Rattle.hex_colour.specs.Hex.{space}
+use Rattle.hex_colour.proofs.Skipping.{Stripped, stripped_none, stripped-more, stripped-to, stripped_all}
+use Rattle.hex_colour.proofs.without_trailing_space.Statement.{statement}
+use Rattle.hex_colour.proofs.without_trailing_space.Tie as tie
 
 abbrev invariant-loop : tie.invariant-loop
 invariant-loop text end₀ end = Stripped space text end

@@ -1,11 +1,11 @@
 // Colours written as six hexadecimal digits.
 ghost use Rattle.std.specs.Prelude.{◌≡◌, true, reverse, ◌+◌, ◌<◌, length};
-ghost use Rattle.hex.specs.Hex.{space, mark, drop_while, digit, pair, all_digits, six_digits, hex_to_rgb8};
+ghost use Rattle.hex_colour.specs.Hex.{space, mark, drop_while, digit, pair, all_digits, six_digits, hex_to_rgb8};
 
 use color::Rgb8;
 
 // What a text is read as: a colour, or a refusal's number.
-#[derive(Drop)]
+#[derive(Clone, Copy)]
 pub enum Hex {
     Colour(Rgb8),
     Refused(u8),

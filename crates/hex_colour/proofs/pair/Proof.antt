@@ -1,10 +1,10 @@
 -- `pair` meets its contract: both digits are below 16, so the number fits a byte. Assumes nothing.
 use Prim.Native.Nat.{◌<◌}
 use native.Mathlib.Omega.{arith}
-use Rattle.hex.specs.Hex.{pair}
-use Rattle.hex.proofs.Digits.{digit_at}
-use Rattle.hex.proofs.pair.Statement.{statement}
-use Rattle.hex.proofs.pair.Tie as tie
+use Rattle.hex_colour.specs.Hex.{pair}
+use Rattle.hex_colour.proofs.Digits.{digit_at}
+use Rattle.hex_colour.proofs.pair.Statement.{statement}
+use Rattle.hex_colour.proofs.pair.Tie as tie
 
 low : (c : tie.After-digit) → c.digit.result < 16
 low c = rw c.digit.ensures (digit_at _ _ c.before.before.before.requires.0 (omega arith))

@@ -9,7 +9,7 @@ use lib.Dec.{leb, eqb}
 use lib.ListN.{length, get_or}
 use borrow.Author.Tests.{le-leb, lt-leb, eq-eqb, ne_eqb, eqb-false}
 use Rattle.base.proofs.Counting.{case, both, left, right, leb_yes, not_true, any_no}
-use Rattle.hex.specs.Hex.{in_range, space, digit, all_digits}
+use Rattle.hex_colour.specs.Hex.{in_range, space, digit, all_digits}
 
 in_range_lem : (a b c : ℕ) → a ≤ c → c ≤ b → in_range a b c ≡ true
 unfolding in_range

@@ -7,7 +7,7 @@ use native.Mathlib.Numerals.{add-one}
 use native.Mathlib.Omega.{arith}
 use lib.ListN.{length, get_or, take, drop, length-drop, drop_of_length-le}
 use lib.Seq.{take-suc, drop-cons, take_all, take-length}
-use Rattle.hex.specs.Hex.{drop_while}
+use Rattle.hex_colour.specs.Hex.{drop_while}
 
 -- the first i elements are skipped
 pub record Skipped (t : ℕ → Bool) (l : List ℕ) (i : ℕ) : Type 0 where

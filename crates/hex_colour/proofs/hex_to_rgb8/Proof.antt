@@ -2,9 +2,9 @@
 use Prim.Native.Nat.{ℕ}
 use mathlib.Core.Path.{ap, ◌∙◌}
 use mathlib.Core.List.{List, reverse}
-use Rattle.hex.specs.Hex.{space, mark, drop_while, stripped, six_digits, hex_to_rgb8}
-use Rattle.hex.proofs.hex_to_rgb8.Statement.{statement}
-use Rattle.hex.proofs.hex_to_rgb8.Tie as tie
+use Rattle.hex_colour.specs.Hex.{space, mark, drop_while, stripped, six_digits, hex_to_rgb8}
+use Rattle.hex_colour.proofs.hex_to_rgb8.Statement.{statement}
+use Rattle.hex_colour.proofs.hex_to_rgb8.Tie as tie
 
 without-leading-space-requires : tie.Need-without-leading-space-requires
 without-leading-space-requires c κs = tt

@@ -7,10 +7,10 @@ use lib.Dec.{eqb}
 use lib.ListN.{length, get_or}
 use borrow.Author.Tests.{eq-eqb, ne_eqb}
 use Rattle.base.proofs.Counting.{yes_any}
-use Rattle.hex.specs.Hex.{digit, all_digits}
+use Rattle.hex_colour.specs.Hex.{digit, all_digits}
 use Rattle.base.proofs.Scans.{Clear, clear_none, clear_more, clear_all}
-use Rattle.hex.proofs.all_digits.Statement.{statement}
-use Rattle.hex.proofs.all_digits.Tie as tie
+use Rattle.hex_colour.proofs.all_digits.Statement.{statement}
+use Rattle.hex_colour.proofs.all_digits.Tie as tie
 
 abbrev invariant-loop : tie.invariant-loop
 invariant-loop text i₀ i = Clear (length text) (λ k. eqb (digit (get_or text k 0)) 16) i

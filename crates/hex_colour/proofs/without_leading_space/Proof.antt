@@ -4,10 +4,10 @@ use mathlib.Core.Path.{sym, ◌∙◌}
 use mathlib.Core.Logic.{⊎_elim}
 use native.Mathlib.Omega.{arith}
 use lib.ListN.{length}
-use Rattle.hex.specs.Hex.{space}
-use Rattle.hex.proofs.Skipping.{Skipped, skipped_none, skipped_more, skipped_to, skipped_all}
-use Rattle.hex.proofs.without_leading_space.Statement.{statement}
-use Rattle.hex.proofs.without_leading_space.Tie as tie
+use Rattle.hex_colour.specs.Hex.{space}
+use Rattle.hex_colour.proofs.Skipping.{Skipped, skipped_none, skipped_more, skipped_to, skipped_all}
+use Rattle.hex_colour.proofs.without_leading_space.Statement.{statement}
+use Rattle.hex_colour.proofs.without_leading_space.Tie as tie
 
 abbrev invariant-loop : tie.invariant-loop
 invariant-loop text i₀ i = Skipped space text i

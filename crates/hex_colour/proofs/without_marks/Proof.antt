@@ -3,10 +3,10 @@ use Prim.Native.Nat.{◌-◌}
 use mathlib.Core.Logic.{⊎_elim}
 use native.Mathlib.Omega.{arith}
 use lib.ListN.{length}
-use Rattle.hex.specs.Hex.{mark}
-use Rattle.hex.proofs.Skipping.{Skipped, skipped_none, skipped_more, skipped_to, skipped_all}
-use Rattle.hex.proofs.without_marks.Statement.{statement}
-use Rattle.hex.proofs.without_marks.Tie as tie
+use Rattle.hex_colour.specs.Hex.{mark}
+use Rattle.hex_colour.proofs.Skipping.{Skipped, skipped_none, skipped_more, skipped_to, skipped_all}
+use Rattle.hex_colour.proofs.without_marks.Statement.{statement}
+use Rattle.hex_colour.proofs.without_marks.Tie as tie
 
 abbrev invariant-loop : tie.invariant-loop
 invariant-loop text i₀ i = Skipped mark text i
