@@ -1,4 +1,6 @@
 // What C gets of an entry's answer: its number, and the facts at the front of a list.
+#![tactic(auto)]
+
 ghost use Rattle.std.specs.Prelude.{◌≡◌, cond, [], ◌∷◌, ℕ, ◌≤◌, length};
 ghost use Rattle.base.specs.Refusals.{refusal, filling};
 ghost use Rattle.rules.specs.Rows.{too_large, too_short};

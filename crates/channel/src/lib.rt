@@ -1,4 +1,6 @@
 // A channel's two tables, as the bits of doubles: what each byte decodes to, and the thresholds of the bytes 1 to 255.
+#![tactic(auto)]
+
 ghost use Rattle.std.specs.Prelude.{◌≡◌};
 ghost use Rattle.channel.specs.Channel.{decode_of, byte_of, DecodeTable, ThresholdTable};
 

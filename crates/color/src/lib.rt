@@ -1,4 +1,6 @@
 // Colours: CIELAB as three doubles, sRGB as three bytes, the ways between them, and the distance of two.
+#![tactic(auto)]
+
 pub mod cielab;
 
 // A colour in CIELAB.

@@ -1,4 +1,6 @@
 // The entries over lists of colours, three numbers for each colour. Each first works out its answer, and writes only if nothing is refused.
+#![tactic(auto)]
+
 ghost use Rattle.std.specs.Prelude.{◌≡◌, [], ◌∷◌, ◌+◌, ◌*◌, ◌<◌, ◌≤◌, ltb, pos, length, set};
 ghost use Rattle.base.specs.Outputs.{filled};
 ghost use Rattle.base.specs.Refusals.{row, refusal, filling};

@@ -1,4 +1,6 @@
 // Cells of a grid and their neighbours, and the planes of the work area.
+#![tactic(auto)]
+
 pub mod tile;
 
 ghost use Rattle.std.specs.Prelude.{◌≡◌, ◌*◌, ◌/◌, ◌%◌, ◌≤◌, ◌<◌, pos, negsuc, ◌+ℤ◌, true, false};

@@ -1,4 +1,6 @@
 // Colours written as six hexadecimal digits.
+#![tactic(auto)]
+
 ghost use Rattle.std.specs.Prelude.{◌≡◌, true, reverse, ◌+◌, ◌<◌, length};
 ghost use Rattle.hex_colour.specs.Hex.{space, mark, drop_while, digit, pair, all_digits, six_digits, hex_to_rgb8};
 

@@ -1,5 +1,7 @@
 // Corner trimming: the jagged corners of one-cell staircases. The sheet is written over from its first row on; the rows that a test
 // may still read, as they were, stand in the first 3 * w numbers of the work area: 0 for a transparent cell, index + 1 otherwise.
+#![tactic(auto)]
+
 ghost use Rattle.std.specs.Prelude.{◌≡◌, false, List, ℕ, ◌+◌, ◌-◌, ◌*◌, ◌≤◌, ◌<◌, ℤ, length, get_or};
 ghost use Rattle.rules.specs.Sheet.{lent_sheet, sheet_of, over};
 ghost use Rattle.rules.specs.Calls.{JaggiesCall};

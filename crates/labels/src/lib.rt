@@ -1,4 +1,6 @@
 // Labelling: the regions of a sheet.
+#![tactic(auto)]
+
 pub mod label;
 
 ghost use Rattle.std.specs.Prelude.{◌≡◌, length};

@@ -1,4 +1,6 @@
 // Masks: bytes of which a nonzero one is set, h rows of w, row after row.
+#![tactic(auto)]
+
 mod dilation;
 mod label;
 

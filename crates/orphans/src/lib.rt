@@ -1,4 +1,6 @@
 // Cleaning: small regions take the index that most cells of large regions around them have. The sheet is labelled once, and after the first pass only regions beside cells that became large in the pass before are judged.
+#![tactic(auto)]
+
 mod passing;
 mod rows;
 mod starting;

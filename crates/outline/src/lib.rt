@@ -1,4 +1,6 @@
 // The outline of a sheet: padding where it applies, the ring, and the palette entry that it is drawn with.
+#![tactic(auto)]
+
 pub mod canvas;
 pub mod ring;
 pub mod rows;

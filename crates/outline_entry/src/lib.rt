@@ -1,4 +1,6 @@
 // The outline's colour, and the palette entry that carries it.
+#![tactic(auto)]
+
 ghost use Rattle.std.specs.Prelude.{◌≡◌, true, ◌+◌, ◌*◌, ◌<◌, ◌≤◌, length};
 ghost use Rattle.channel.specs.Channel.{ThresholdTable};
 ghost use Rattle.color.specs.Lab.{lab_to_rgb8};

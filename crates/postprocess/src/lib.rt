@@ -1,4 +1,6 @@
 // What is done to a sheet once its colours are chosen: saturation, cleaning, corners and outline.
+#![tactic(auto)]
+
 pub mod steps;
 
 ghost use Rattle.std.specs.Prelude.{◌≡◌, length};

@@ -1,4 +1,6 @@
 // The refusals that entries share: rows 1 to 3 and rows 4 to 6, and the conditions of the rows, each a function that answers whether its row applies.
+#![tactic(auto)]
+
 ghost use Rattle.std.specs.Prelude.{◌≡◌, [], ◌*◌, ◌≤◌, min, ◌&&◌, pos, length};
 ghost use Rattle.std.specs.Float.Ieee.{le};
 ghost use Rattle.std.specs.Int.Signed.{le_z};

@@ -1,5 +1,7 @@
 // Stored answers as a stream of whole numbers: reading them, the lists among them, whether a call gave what they say, and what is printed of that.
 // Every function takes any stream: a number past its end is 0, so that a malformed one shows as a difference.
+#![tactic(auto)]
+
 pub mod comparison;
 pub mod kinds;
 pub mod lists;

@@ -1,4 +1,6 @@
 // The refusals of `run`: every row is judged before the first write.
+#![tactic(auto)]
+
 ghost use Rattle.std.specs.Prelude.{◌≡◌, ◌||◌, [], ◌≤◌, pos};
 ghost use Rattle.std.specs.Int.Signed.{le_z};
 ghost use Rattle.base.specs.Refusals.{refusal, filling};

@@ -1,4 +1,6 @@
 // Saturation: a and b of every entry of a palette are multiplied by beta.
+#![tactic(auto)]
+
 pub mod scaling;
 
 ghost use Rattle.std.specs.Prelude.{◌≡◌};

@@ -1,4 +1,6 @@
 // The program `silk`: reads the text of a sheet from standard input, and writes what comes of it to standard output.
+#![tactic(auto)]
+
 use libc::{STDIN_FILENO, STDOUT_FILENO};
 use silk_reply::{ROOM, TEXT};
 

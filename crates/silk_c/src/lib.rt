@@ -1,4 +1,6 @@
 // The entries for C, on numbers and slices: each answers 0 for an accepted call, or the refusal's number.
+#![tactic(auto)]
+
 ghost use Rattle.std.specs.Prelude.{◌≡◌, [], ◌∷◌, ltb, length};
 ghost use Rattle.base.specs.Refusals.{row, refusal, unless, filling};
 ghost use Rattle.color_lists.specs.Entries.{rgb8_to_lab_rows, rgb8_to_lab_out, lab_to_rgb8_rows, lab_to_rgb8_out, delta_e_rows, delta_e_out, matrix_rows, matrix_out, nearest_rows, nearest_out};

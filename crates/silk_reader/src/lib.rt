@@ -1,4 +1,6 @@
 // A place in a text, which moves on as the text is read.
+#![tactic(auto)]
+
 pub mod head;
 pub mod items;
 

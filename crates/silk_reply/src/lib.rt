@@ -1,4 +1,6 @@
 // What the program `silk` does: it reads a text, runs its sheet, and writes what comes of it.
+#![tactic(auto)]
+
 ghost use Rattle.std.specs.Prelude.{◌≡◌, length, take};
 ghost use Rattle.silk_text.specs.Answers.{laid};
 ghost use Rattle.silk_print.specs.Print.{refusal_text};

@@ -1,2 +1,4 @@
 // Reading the text of the program `silk`.
+#![tactic(auto)]
+
 pub mod sheet;

@@ -1,4 +1,6 @@
 // Replays the stored answers of all entries by the functions for C. Prints each case that differs, and how many cases each file has.
+#![tactic(auto)]
+
 mod colours;
 mod regions;
 mod sheets;

@@ -1,5 +1,7 @@
 // Replays the stored texts of the program `silk`, each by way of files. Prints each case whose answer differs, and how many cases there are.
 // A case is three lines: its name, the text, and the answer. In a line \n stands for byte 10, \xHH for the byte of these hex digits, and <C*NNNNNN> for so many bytes C.
+#![tactic(auto)]
+
 ghost use Rattle.std.specs.Prelude.{◌+◌, ◌≤◌, ◌<◌, length};
 ghost use Rattle.io.specs.Counts.{IsPrefixLen};
 

@@ -1,4 +1,6 @@
 // The verdict on one region: it stays, is frozen, or takes the index that most cells of large regions around it have.
+#![tactic(auto)]
+
 mod agreeing;
 mod large;
 pub mod target;

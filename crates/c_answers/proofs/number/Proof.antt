@@ -4,22 +4,27 @@ use borrow.Author.Rules.{rules}
 use Rattle.c_answers.proofs.number.Statement.{statement}
 use Rattle.c_answers.proofs.number.Tie as tie
 
-enum_told : tie.Need-enum-told
+enum_told : tie.Need-enum_told-1
 enum_told c = search rules
 
-enum-known-answer : tie.Need-enum-known-answer
+enum-known-answer : tie.Need-enum_known-answer
 enum-known-answer c = search rules
 
-cast-result : tie.Need-overflow-cast-result
+cast-result : tie.Need-overflow_cast-result
 cast-result c = search rules
 
-returns : tie.Need-returns
+returns : tie.Need-returns-in-Done
 unfolding status done
-returns c = rw c.enum_told.given.1
+returns c = rw c.enum_told-1.given.1
 
-returns-2 : tie.Need-returns-2
+returns-2 : tie.Need-returns-in-Refused
 unfolding status done
-returns-2 c = rw c.before.answer.given.1
+returns-2 c = rw c.before.answer-1.given.1
 
-pub number-spec : {M : Type 1} → statement M
-number-spec = tie.close (tie.spec enum_told enum-known-answer cast-result returns returns-2)
+pub number_spec : {M : Type 1} → statement M
+number_spec = tie.close (tie.spec
+    enum_told
+    enum-known-answer
+    cast-result
+    returns
+    returns-2)

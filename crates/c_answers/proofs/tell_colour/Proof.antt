@@ -8,37 +8,37 @@ use borrow.Author.Rules.{rules}
 use Rattle.c_answers.proofs.tell_colour.Statement.{statement}
 use Rattle.c_answers.proofs.tell_colour.Tie as tie
 
-enum-known-answer : tie.Need-enum-known-answer
+enum-known-answer : tie.Need-enum_known-answer
 enum-known-answer c = search rules
 
-cast-result : tie.Need-overflow-cast-result
+cast-result : tie.Need-overflow_cast-result
 cast-result c = search rules
 
-enum-known-answer-2 : tie.Need-enum-known-answer-2
+enum-known-answer-2 : tie.Need-enum_known-answer-in-Colour-1
 enum-known-answer-2 c = search rules
 
-slice-write-out : tie.Need-slice-write-out
+slice-write-out : tie.Need-bounds-out-0
 slice-write-out c = search rules
 
-slice-write-out-2 : tie.Need-slice-write-out-2
+slice-write-out-2 : tie.Need-bounds-out-1
 slice-write-out-2 c = simp length-set (omega arith)
 
-slice-write-out-3 : tie.Need-slice-write-out-3
+slice-write-out-3 : tie.Need-bounds-out-2
 slice-write-out-3 c = search rules
 
-returns : tie.Need-returns
+returns : tie.Need-returns-in-Refused
 unfolding status received coloured
-returns c = rw c.before.answer.given.1 (refl, refl)
+returns c = rw c.before.answer-1.given.1 (refl, refl)
 
-same_length : tie.Need-same-length
+same_length : tie.Need-shape_of-out
 same_length c = search rules
 
-returns-2 : tie.Need-returns-2
+returns-2 : tie.Need-returns-in-Colour
 unfolding status coloured
-returns-2 c = rw c.before.answer2.given.1 (refl, stored_three _ _ _ _ c.before.before.before.requires)
+returns-2 c = rw c.before.answer-in-Colour-1.given.1 (refl, stored_three _ _ _ _ c.before.before.before.requires)
 
-pub tell-colour-spec : {M : Type 1} → statement M
-tell-colour-spec =
+pub tell_colour_spec : {M : Type 1} → statement M
+tell_colour_spec =
     tie.close
     (tie.spec
     enum-known-answer

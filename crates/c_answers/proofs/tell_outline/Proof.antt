@@ -5,35 +5,35 @@ use borrow.Author.Rules.{rules}
 use Rattle.c_answers.proofs.tell_outline.Statement.{statement}
 use Rattle.c_answers.proofs.tell_outline.Tie as tie
 
-enum-known-answer : tie.Need-enum-known-answer
+enum-known-answer : tie.Need-enum_known-answer
 enum-known-answer c = search rules
 
-cast-result : tie.Need-overflow-cast-result
+cast-result : tie.Need-overflow_cast-result
 cast-result c = search rules
 
-enum-known-answer-2 : tie.Need-enum-known-answer-2
+enum-known-answer-2 : tie.Need-enum_known-answer-in-Drawn-1
 enum-known-answer-2 c = search rules
 
-put-facts-requires : tie.Need-put-facts-requires
+put-facts-requires : tie.Need-put_facts-requires
 put-facts-requires c κs =
     let s = c.before.before.before.before.before in
-    (s.requires.0 _ c.before.before.answer2.given.1, s.requires.1)
+    (s.requires.0 _ c.before.before.answer-in-Drawn-1.given.1, s.requires.1)
 
-returns : tie.Need-returns
+returns : tie.Need-returns-in-Refused
 unfolding status received outlined
-returns c = rw c.before.answer.given.1 (refl, refl)
+returns c = rw c.before.answer-1.given.1 (refl, refl)
 
-same_length : tie.Need-same-length
+same_length : tie.Need-shape_of-facts
 same_length c = search rules
 
-returns-2 : tie.Need-returns-2
+returns-2 : tie.Need-returns-in-Drawn
 unfolding status outlined
 returns-2 c =
     let p = c.before.before in
-    rw p.before.before.before.answer2.given.1 (refl, p.put-facts.ensures)
+    rw p.before.before.before.answer-in-Drawn-1.given.1 (refl, p.put_facts.ensures)
 
-pub tell-outline-spec : {M : Type 1} → statement M
-tell-outline-spec =
+pub tell_outline_spec : {M : Type 1} → statement M
+tell_outline_spec =
     tie.close
     (tie.spec
     enum-known-answer

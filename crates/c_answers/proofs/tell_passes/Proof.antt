@@ -6,31 +6,31 @@ use borrow.Author.Rules.{rules}
 use Rattle.c_answers.proofs.tell_passes.Statement.{statement}
 use Rattle.c_answers.proofs.tell_passes.Tie as tie
 
-enum-known-answer : tie.Need-enum-known-answer
+enum-known-answer : tie.Need-enum_known-answer
 enum-known-answer c = search rules
 
-cast-result : tie.Need-overflow-cast-result
+cast-result : tie.Need-overflow_cast-result
 cast-result c = search rules
 
-enum-known-answer-2 : tie.Need-enum-known-answer-2
+enum-known-answer-2 : tie.Need-enum_known-answer-in-Passes-1
 enum-known-answer-2 c = search rules
 
-slice-write-facts : tie.Need-slice-write-facts
+slice-write-facts : tie.Need-bounds-facts-0
 slice-write-facts c = search rules
 
-returns : tie.Need-returns
+returns : tie.Need-returns-in-Refused
 unfolding status received cleaned
-returns c = rw c.before.answer.given.1 (refl, refl)
+returns c = rw c.before.answer-1.given.1 (refl, refl)
 
-same_length : tie.Need-same-length
+same_length : tie.Need-shape_of-facts
 same_length c = search rules
 
-returns-2 : tie.Need-returns-2
+returns-2 : tie.Need-returns-in-Passes
 unfolding status cleaned
-returns-2 c = rw c.before.answer2.given.1 (refl, stored_one _ _ c.before.before.before.requires)
+returns-2 c = rw c.before.answer-in-Passes-1.given.1 (refl, stored_one _ _ c.before.before.before.requires)
 
-pub tell-passes-spec : {M : Type 1} → statement M
-tell-passes-spec =
+pub tell_passes_spec : {M : Type 1} → statement M
+tell_passes_spec =
     tie.close
     (tie.spec
     enum-known-answer

@@ -6,31 +6,31 @@ use borrow.Author.Rules.{rules}
 use Rattle.c_answers.proofs.tell_regions.Statement.{statement}
 use Rattle.c_answers.proofs.tell_regions.Tie as tie
 
-enum-known-answer : tie.Need-enum-known-answer
+enum-known-answer : tie.Need-enum_known-answer
 enum-known-answer c = search rules
 
-cast-result : tie.Need-overflow-cast-result
+cast-result : tie.Need-overflow_cast-result
 cast-result c = search rules
 
-enum-known-answer-2 : tie.Need-enum-known-answer-2
+enum-known-answer-2 : tie.Need-enum_known-answer-in-Regions-1
 enum-known-answer-2 c = search rules
 
-slice-write-facts : tie.Need-slice-write-facts
+slice-write-facts : tie.Need-bounds-facts-0
 slice-write-facts c = search rules
 
-returns : tie.Need-returns
+returns : tie.Need-returns-in-Refused
 unfolding status received labelled
-returns c = rw c.before.answer.given.1 (refl, refl)
+returns c = rw c.before.answer-1.given.1 (refl, refl)
 
-same_length : tie.Need-same-length
+same_length : tie.Need-shape_of-facts
 same_length c = search rules
 
-returns-2 : tie.Need-returns-2
+returns-2 : tie.Need-returns-in-Regions
 unfolding status labelled
-returns-2 c = rw c.before.answer2.given.1 (refl, stored_one _ _ c.before.before.before.requires)
+returns-2 c = rw c.before.answer-in-Regions-1.given.1 (refl, stored_one _ _ c.before.before.before.requires)
 
-pub tell-regions-spec : {M : Type 1} → statement M
-tell-regions-spec =
+pub tell_regions_spec : {M : Type 1} → statement M
+tell_regions_spec =
     tie.close
     (tie.spec
     enum-known-answer

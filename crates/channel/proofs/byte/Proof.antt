@@ -9,59 +9,59 @@ use Rattle.channel.proofs.Thresholds.{passes_by, Sought, sought_start, sought_hi
 use Rattle.channel.proofs.byte.Statement.{statement}
 use Rattle.channel.proofs.byte.Tie as tie
 
-abbrev invariant-loop : tie.invariant-loop
+abbrev invariant-loop : tie.invariant-loop-gap
 invariant-loop table c n₀ gap₀ n gap = Sought c n gap
 
-abbrev decreases-loop : tie.decreases-loop
+abbrev decreases-loop : tie.decreases-loop-gap
 decreases-loop table c n₀ gap₀ n gap = gap
 
-loop-holds : tie.Need-loop-init invariant-loop decreases-loop
+loop-holds : tie.Need-loop-gap-init invariant-loop decreases-loop
 loop-holds c = sought_start c.args.c
 
-add-if1 : tie.Need-overflow-add-if1 invariant-loop decreases-loop
+add-if1 : tie.Need-overflow_add-n invariant-loop decreases-loop
 add-if1 c = search rules
 
-sub-if1 : tie.Need-overflow-sub-if1 invariant-loop decreases-loop
+sub-if1 : tie.Need-overflow_sub-n invariant-loop decreases-loop
 sub-if1 c = omega arith
 
-mul-if1 : tie.Need-overflow-mul-if1 invariant-loop decreases-loop
+mul-if1 : tie.Need-offset_bounds-table-n invariant-loop decreases-loop
 mul-if1 c = search rules
 
-shared-slice-read-if1 : tie.Need-shared-slice-read-if1 invariant-loop decreases-loop
+shared-slice-read-if1 : tie.Need-bounds-table-n invariant-loop decreases-loop
 shared-slice-read-if1 c = omega arith
 
-float-from-bits-if1 : tie.Need-float-from-bits-if1 invariant-loop decreases-loop
-float-from-bits-if1 c = let d = c.before.before in no_nan_bits _ (d.before.requires.fits (d.loop.n + d.loop.gap / 2 - 1) (omega arith))
+float-from-bits-if1 : tie.Need-float_from_bits-table invariant-loop decreases-loop
+float-from-bits-if1 c = let d = c.before.before in no_nan_bits _ (d.before.requires.fits (d.loop-gap.n + d.loop-gap.gap / 2 - 1) (omega arith))
 
-add-n : tie.Need-overflow-add-n invariant-loop decreases-loop
+add-n : tie.Need-overflow_add-n-then-table-n invariant-loop decreases-loop
 add-n c = search rules
 
-sub-gap : tie.Need-overflow-sub-gap invariant-loop decreases-loop
+sub-gap : tie.Need-overflow_sub-gap invariant-loop decreases-loop
 sub-gap c = omega arith
 
-loop-less : tie.Need-loop-smaller invariant-loop decreases-loop
+loop-less : tie.Need-loop-gap-smaller invariant-loop decreases-loop
 loop-less c = omega arith
 
-loop-again : tie.Need-loop-preserved invariant-loop decreases-loop
+loop-again : tie.Need-loop-gap-preserved invariant-loop decreases-loop
 loop-again c =
     let f = c.before.before.before in
-    let d = f.loop in
+    let d = f.loop-gap in
     let x = f.before.args.c in
-    let m : 1 < d.gap = c.before.before.loop-test.true in
+    let m : 1 < d.gap = c.before.before.loop-gap-test.true in
     let e = passes_by f.before.requires x (d.n + d.gap / 2 - 1) (omega arith) in
     ⊎_elim
     (λ w. subst (λ (n : ℕ). Sought x n (d.gap - d.gap / 2)) (sym w.1) (sought_hit x d.n d.gap d.invariant m (e ∙ w.0.taken)))
     (λ w. subst (λ (n : ℕ). Sought x n (d.gap - d.gap / 2)) (sym w.1) (sought_miss x d.n d.gap d.invariant m (e ∙ w.0.left)))
-    c.if1.branch
+    c.if-table-n.branch-raw
 
-cast-result : tie.Need-overflow-cast-result invariant-loop decreases-loop
+cast-result : tie.Need-overflow_cast-result invariant-loop decreases-loop
 cast-result c = omega arith
 
 returns : tie.Need-returns invariant-loop decreases-loop
-returns c = sought_end _ _ _ c.before.loop.invariant (search rules)
+returns c = sought_end _ _ _ c.before.loop-gap.invariant (search rules)
 
-pub byte-spec : {M : Type 1} → statement M
-byte-spec =
+pub byte_spec : {M : Type 1} → statement M
+byte_spec =
     tie.close
     (tie.spec
     invariant-loop

@@ -9,5 +9,6 @@ returns : tie.Need-returns
 unfolding decode_pattern decode_table
 returns c = record { size = refl; fits = decode_fit; entry = decode_is }
 
-pub decode-table-spec : {M : Type 1} → statement M
-decode-table-spec = tie.close (tie.spec returns)
+pub decode_table_spec : {M : Type 1} → statement M
+decode_table_spec = tie.close (tie.spec
+    returns)

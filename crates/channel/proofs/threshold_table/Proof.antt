@@ -9,5 +9,6 @@ returns : tie.Need-returns
 unfolding threshold_pattern threshold_table
 returns c = record { size = refl; fits = threshold_fit; entry = entry-is }
 
-pub threshold-table-spec : {M : Type 1} → statement M
-threshold-table-spec = tie.close (tie.spec returns)
+pub threshold_table_spec : {M : Type 1} → statement M
+threshold_table_spec = tie.close (tie.spec
+    returns)

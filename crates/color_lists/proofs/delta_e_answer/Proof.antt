@@ -15,7 +15,11 @@ told-requires c κs = tt
 
 returns : tie.Need-returns
 unfolding refusal delta_e_rows colours ragged
-returns c = rw (c.before.before.strays.ensures, c.before.strays2.ensures) at c.told.ensures
+returns c = rw (c.before.before.strays.ensures, c.before.strays-2.ensures) at c.told.ensures
 
-pub delta-e-answer-spec : {M : Type 1} → statement M
-delta-e-answer-spec = tie.close (tie.spec strays-requires strays-requires-2 told-requires returns)
+pub delta_e_answer_spec : {M : Type 1} → statement M
+delta_e_answer_spec = tie.close (tie.spec
+    strays-requires
+    strays-requires-2
+    told-requires
+    returns)

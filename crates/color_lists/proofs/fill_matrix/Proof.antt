@@ -6,57 +6,73 @@ use Rattle.color_lists.proofs.Fillings.{Written, written_none, written-more, wri
 use Rattle.color_lists.proofs.fill_matrix.Statement.{statement}
 use Rattle.color_lists.proofs.fill_matrix.Tie as tie
 
-abbrev invariant-loop : tie.invariant-loop
+abbrev invariant-loop : tie.invariant-loop-i
 invariant-loop palette out₀ n cells i₀ out i = Written cells (matrix_at palette) out₀ out i
 
-abbrev decreases-loop : tie.decreases-loop
+abbrev decreases-loop : tie.decreases-loop-i
 decreases-loop palette out₀ n cells i₀ out i = cells - i
 
-mul-cells : tie.Need-overflow-mul-cells invariant-loop decreases-loop
+mul-cells : tie.Need-overflow_mul-cells invariant-loop decreases-loop
 unfolding colours
 mul-cells c = let s = square_le _ c.before.before.requires.0 in omega arith
 
-loop-holds : tie.Need-loop-init invariant-loop decreases-loop
+loop-holds : tie.Need-loop-i-init invariant-loop decreases-loop
 unfolding colours
 loop-holds c = written_none _ _ _ c.before.before.requires.1
 
-div-entry : tie.Need-nonzero-div-entry invariant-loop decreases-loop
-div-entry c = (placed _ _ c.loop-test.true).some
+div-entry : tie.Need-nonzero_div-i invariant-loop decreases-loop
+div-entry c = (placed _ _ c.loop-i-test.true).some
 
 entry-requires : tie.Need-entry-requires invariant-loop decreases-loop
-entry-requires c κs = let p = placed _ _ c.loop-test.true in omega (arith, p.row)
+entry-requires c κs = let p = placed _ _ c.loop-i-test.true in omega (arith, p.row)
 
-rem-entry : tie.Need-nonzero-rem-entry invariant-loop decreases-loop
-rem-entry c = (placed _ _ c.before.loop-test.true).some
+rem-entry : tie.Need-nonzero_rem-i invariant-loop decreases-loop
+rem-entry c = (placed _ _ c.before.loop-i-test.true).some
 
-entry-requires-2 : tie.Need-entry-requires-2 invariant-loop decreases-loop
-entry-requires-2 c κs = let p = placed _ _ c.before.loop-test.true in omega (arith, p.column)
+entry-requires-2 : tie.Need-entry-requires-in-loop-i invariant-loop decreases-loop
+entry-requires-2 c κs = let p = placed _ _ c.before.loop-i-test.true in omega (arith, p.column)
 
 distance-requires : tie.Need-distance-requires invariant-loop decreases-loop
 distance-requires c κs = tt
 
-mul-out : tie.Need-overflow-mul-out invariant-loop decreases-loop
-mul-out c = let e = written-length c.before.before.before.before.loop.invariant in omega arith
+mul-out : tie.Need-offset_bounds-out-i invariant-loop decreases-loop
+mul-out c = let e = written-length c.before.before.before.before.loop-i.invariant in omega arith
 
-slice-write-out : tie.Need-slice-write-out invariant-loop decreases-loop
-slice-write-out c = let e = written-length c.before.before.before.before.loop.invariant in omega arith
+slice-write-out : tie.Need-bounds-out-i invariant-loop decreases-loop
+slice-write-out c = let e = written-length c.before.before.before.before.loop-i.invariant in omega arith
 
-add-i : tie.Need-overflow-add-i invariant-loop decreases-loop
+add-i : tie.Need-overflow_add-i invariant-loop decreases-loop
 add-i c = omega arith
 
-loop-less : tie.Need-loop-smaller invariant-loop decreases-loop
+loop-less : tie.Need-loop-i-smaller invariant-loop decreases-loop
 loop-less c = omega arith
 
-loop-again : tie.Need-loop-preserved invariant-loop decreases-loop
+loop-again : tie.Need-loop-i-preserved invariant-loop decreases-loop
 unfolding matrix_at colours
-loop-again c = written-more c.before.before.before.before.loop.invariant c.before.before.before.loop-test.true _ cc
+loop-again c = written-more c.before.before.before.before.loop-i.invariant c.before.before.before.loop-i-test.true _ cc
 
-same_length : tie.Need-same-length invariant-loop decreases-loop
-same_length c = written-length c.before.loop.invariant
+same_length : tie.Need-shape_of-out invariant-loop decreases-loop
+same_length c = written-length c.before.loop-i.invariant
 
 returns : tie.Need-returns invariant-loop decreases-loop
 unfolding colours
-returns c = written_all c.before.loop.invariant c.loop-test.false
+returns c = written_all c.before.loop-i.invariant c.loop-i-test.false
 
-pub fill-matrix-spec : {M : Type 1} → statement M
-fill-matrix-spec = tie.close (tie.spec invariant-loop decreases-loop mul-cells loop-holds div-entry entry-requires rem-entry entry-requires-2 distance-requires mul-out slice-write-out add-i loop-less loop-again same_length returns)
+pub fill_matrix_spec : {M : Type 1} → statement M
+fill_matrix_spec = tie.close (tie.spec
+    invariant-loop
+    decreases-loop
+    mul-cells
+    loop-holds
+    div-entry
+    entry-requires
+    rem-entry
+    entry-requires-2
+    distance-requires
+    mul-out
+    slice-write-out
+    add-i
+    loop-less
+    loop-again
+    same_length
+    returns)

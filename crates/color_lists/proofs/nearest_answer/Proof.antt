@@ -15,7 +15,11 @@ told-requires c κs = tt
 
 returns : tie.Need-returns
 unfolding refusal nearest_rows colours ragged crowded
-returns c = rw (c.before.before.strays.ensures, c.before.strays2.ensures) at c.told.ensures
+returns c = rw (c.before.before.strays.ensures, c.before.strays-2.ensures) at c.told.ensures
 
-pub nearest-answer-spec : {M : Type 1} → statement M
-nearest-answer-spec = tie.close (tie.spec strays-requires strays-requires-2 told-requires returns)
+pub nearest_answer_spec : {M : Type 1} → statement M
+nearest_answer_spec = tie.close (tie.spec
+    strays-requires
+    strays-requires-2
+    told-requires
+    returns)

@@ -6,31 +6,38 @@ use Rattle.color_lists.proofs.Answers.{matrix_room}
 use Rattle.color_lists.proofs.palette_distance_matrix.Statement.{statement}
 use Rattle.color_lists.proofs.palette_distance_matrix.Tie as tie
 
-matrix-answer-requires : tie.Need-matrix-answer-requires
+matrix-answer-requires : tie.Need-matrix_answer-answer-requires
 matrix-answer-requires c κs = tt
 
-enum_told : tie.Need-enum-told
+enum_told : tie.Need-enum_told-1
 enum_told c = search rules
 
-abbrev entered : tie.After-fill-matrix-arg → tie.After-enum-told
+abbrev entered : tie.After-fill_matrix-arg-1 → tie.In-Done
 entered c = c.before
 
-fill-matrix-requires : tie.Need-fill-matrix-requires
-fill-matrix-requires c κs = let t = entered c in matrix_room _ _ (filling_none t.before.before.matrix-answer.ensures t.enum_told.given.1)
+fill-matrix-requires : tie.Need-fill_matrix-requires
+fill-matrix-requires c κs = let t = entered c in matrix_room _ _ (filling_none t.before.before.matrix_answer-answer.ensures t.enum_told-1.given.1)
 
-enum-told-2 : tie.Need-enum-told-2
+enum-told-2 : tie.Need-enum_told-in_default
 enum-told-2 c = search rules
 
-same_length : tie.Need-same-length
+same_length : tie.Need-shape_of-out
 same_length c = search rules
 
-returns : tie.Need-returns
+returns : tie.Need-returns-in-Done
 unfolding written matrix_out
-returns c = let t = entered c.before.before.before in (cc, none_unless _ _ (filling_none t.before.before.matrix-answer.ensures t.enum_told.given.1) c.before.before.fill-matrix.ensures)
+returns c = let t = entered c.before.before.before in (cc, none_unless _ _ (filling_none t.before.before.matrix_answer-answer.ensures t.enum_told-1.given.1) c.before.before.fill_matrix.ensures)
 
-returns-2 : tie.Need-returns-2
+returns-2 : tie.Need-returns-in_default
 unfolding written matrix_out
-returns-2 c = (cc, some_unless _ _ (filling_some c.before.before.matrix-answer.ensures c.enum-told2.given.1))
+returns-2 c = (cc, some_unless _ _ (filling_some c.before.before.matrix_answer-answer.ensures c.enum_told-in_default-1.given.1))
 
-pub palette-distance-matrix-spec : {M : Type 1} → statement M
-palette-distance-matrix-spec = tie.close (tie.spec matrix-answer-requires enum_told fill-matrix-requires enum-told-2 same_length returns returns-2)
+pub palette_distance_matrix_spec : {M : Type 1} → statement M
+palette_distance_matrix_spec = tie.close (tie.spec
+    matrix-answer-requires
+    enum_told
+    fill-matrix-requires
+    enum-told-2
+    same_length
+    returns
+    returns-2)

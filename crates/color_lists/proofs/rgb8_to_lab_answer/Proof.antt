@@ -5,7 +5,7 @@ use Rattle.color_lists.specs.Entries.{colours, ragged, rgb8_to_lab_rows}
 use Rattle.color_lists.proofs.rgb8_to_lab_answer.Statement.{statement}
 use Rattle.color_lists.proofs.rgb8_to_lab_answer.Tie as tie
 
-mul-short : tie.Need-overflow-mul-short
+mul-short : tie.Need-overflow_mul-short
 mul-short c = search rules
 
 told-requires : tie.Need-told-requires
@@ -15,5 +15,8 @@ returns : tie.Need-returns
 unfolding refusal rgb8_to_lab_rows colours ragged
 returns c = c.told.ensures
 
-pub rgb8-to-lab-answer-spec : {M : Type 1} → statement M
-rgb8-to-lab-answer-spec = tie.close (tie.spec mul-short told-requires returns)
+pub rgb8_to_lab_answer_spec : {M : Type 1} → statement M
+rgb8_to_lab_answer_spec = tie.close (tie.spec
+    mul-short
+    told-requires
+    returns)

@@ -18,33 +18,41 @@ wide_at c = wide c.args.h c.args.w c.args.p c.requires.0
 last : {a b c : Bool} (d : Bool) → a ≡ false → b ≡ false → c ≡ false → d ≡ (a || b || c || d)
 last d x y z = rw (x, y, z)
 
-returns : tie.Need-returns
+returns : tie.Need-returns-then-y-eq0
 unfolding on_edge
-returns c = simp (eq-eqb _ _ c.if1.true)
+returns c = simp (eq-eqb _ _ c.if-y-eq0.true)
 
-returns-2 : tie.Need-returns-2
+returns-2 : tie.Need-returns-then-x-eq0
 unfolding on_edge
-returns-2 c = let a = c.before.before.args in sym (or_left _ (or_right (eqb (a.p / a.w) 0 || eqb (a.p / a.w + 1) a.h) (eq-eqb _ _ c.if2.true)))
+returns-2 c = let a = c.before.before.args in sym (or_left _ (or_right (eqb (a.p / a.w) 0 || eqb (a.p / a.w + 1) a.h) (eq-eqb _ _ c.if-x-eq0.true)))
 
-returns-3 : tie.Need-returns-3
+returns-3 : tie.Need-returns-then-y-h
 unfolding on_edge
-returns-3 c = simp (ne_eqb _ _ c.before.before.if1.false, eq-eqb _ _ c.if3.true)
+returns-3 c = simp (ne_eqb _ _ c.before.before.if-y-eq0.false, eq-eqb _ _ c.if-y-h.true)
 
-returns-4 : tie.Need-returns-4
+returns-4 : tie.Need-returns
 unfolding on_edge
-returns-4 c = last _ (ne_eqb _ _ c.before.before.if1.false) (ne_eqb _ _ c.if3.false) (ne_eqb _ _ c.before.if2.false)
+returns-4 c = last _ (ne_eqb _ _ c.before.before.if-y-eq0.false) (ne_eqb _ _ c.if-y-h.false) (ne_eqb _ _ c.before.if-x-eq0.false)
 
-div-y : tie.Need-nonzero-div-y
+div-y : tie.Need-nonzero_div-y
 div-y c = wide_at c
 
-rem-x : tie.Need-nonzero-rem-x
+rem-x : tie.Need-nonzero_rem-x
 rem-x c = wide_at c
 
-add-if3 : tie.Need-overflow-add-if3
+add-if3 : tie.Need-overflow_add-y
 add-if3 c = let s = c.before.before in omega (arith, row_in s.args.h s.args.w s.args.p s.requires.0)
 
-add-result : tie.Need-overflow-add-result
+add-result : tie.Need-overflow_add-result
 add-result c = let s = c.before.before.before in omega (arith, col_in s.args.h s.args.w s.args.p s.requires.0)
 
-pub on-edge-spec : {M : Type 1} → statement M
-on-edge-spec = tie.close (tie.spec div-y rem-x returns returns-2 add-if3 returns-3 add-result returns-4)
+pub on_edge_spec : {M : Type 1} → statement M
+on_edge_spec = tie.close (tie.spec
+    div-y
+    rem-x
+    returns
+    returns-2
+    add-if3
+    returns-3
+    add-result
+    returns-4)

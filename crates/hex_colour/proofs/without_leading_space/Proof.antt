@@ -9,43 +9,55 @@ use Rattle.hex_colour.proofs.Skipping.{Skipped, skipped_none, skipped_more, skip
 use Rattle.hex_colour.proofs.without_leading_space.Statement.{statement}
 use Rattle.hex_colour.proofs.without_leading_space.Tie as tie
 
-abbrev invariant-loop : tie.invariant-loop
+abbrev invariant-loop : tie.invariant-loop-i
 invariant-loop text i₀ i = Skipped space text i
 
-abbrev decreases-loop : tie.decreases-loop
+abbrev decreases-loop : tie.decreases-loop-i
 decreases-loop text i₀ i = length text - i
 
-loop-holds : tie.Need-loop-init invariant-loop decreases-loop
+loop-holds : tie.Need-loop-i-init invariant-loop decreases-loop
 loop-holds c = skipped_none _
 
-shared-slice-read-is-space : tie.Need-shared-slice-read-is-space invariant-loop decreases-loop
+shared-slice-read-is-space : tie.Need-bounds-text-i invariant-loop decreases-loop
 shared-slice-read-is-space c = omega arith
 
-is-space-requires : tie.Need-is-space-requires invariant-loop decreases-loop
+is-space-requires : tie.Need-is_space-requires invariant-loop decreases-loop
 is-space-requires c κs = tt
 
-add-i : tie.Need-overflow-add-i invariant-loop decreases-loop
+add-i : tie.Need-overflow_add-i invariant-loop decreases-loop
 add-i c = omega arith
 
-loop-less : tie.Need-loop-smaller invariant-loop decreases-loop
+loop-less : tie.Need-loop-i-smaller invariant-loop decreases-loop
 loop-less c = omega arith
 
-loop-again : tie.Need-loop-preserved invariant-loop decreases-loop
-loop-again c = skipped_more c.before.before.before.before.loop.invariant c.before.before.before.loop-test.true (sym c.before.is-space.ensures ∙ c.if1.true)
+loop-again : tie.Need-loop-i-preserved invariant-loop decreases-loop
+loop-again c = skipped_more c.before.before.before.before.loop-i.invariant c.before.before.before.loop-i-test.true (sym c.before.is_space.ensures ∙ c.if-is_space.true)
 
-sub-result : tie.Need-overflow-sub-result invariant-loop decreases-loop
+sub-result : tie.Need-slice_bounds-result-count invariant-loop decreases-loop
 sub-result c = omega arith
 
-part-result-start : tie.Need-slice-bounds-result-start invariant-loop decreases-loop
+part-result-start : tie.Need-slice_bounds-result-start invariant-loop decreases-loop
 part-result-start c = omega arith
 
-part-result-end : tie.Need-slice-bounds-result-end invariant-loop decreases-loop
+part-result-end : tie.Need-slice_bounds-result-end invariant-loop decreases-loop
 part-result-end c = omega arith
 
 returns : tie.Need-returns invariant-loop decreases-loop
 returns c =
-    let s = c.before.before.loop.invariant in
-    ⊎_elim (λ w. skipped_to s w.0.taken (sym w.2.ensures ∙ w.3.left)) (λ w. skipped_all s w.left) c.before.loop-test.branch
+    let s = c.before.before.loop-i.invariant in
+    ⊎_elim (λ w. skipped_to s w.0.taken (sym w.2.ensures ∙ w.3.left)) (λ w. skipped_all s w.left) c.before.loop-i-test.branch-raw
 
-pub without-leading-space-spec : {M : Type 1} → statement M
-without-leading-space-spec = tie.close (tie.spec invariant-loop decreases-loop loop-holds shared-slice-read-is-space is-space-requires add-i loop-less loop-again sub-result part-result-start part-result-end returns)
+pub without_leading_space_spec : {M : Type 1} → statement M
+without_leading_space_spec = tie.close (tie.spec
+    invariant-loop
+    decreases-loop
+    loop-holds
+    shared-slice-read-is-space
+    is-space-requires
+    add-i
+    loop-less
+    loop-again
+    sub-result
+    part-result-start
+    part-result-end
+    returns)

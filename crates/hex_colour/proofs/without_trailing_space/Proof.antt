@@ -8,40 +8,51 @@ use Rattle.hex_colour.proofs.Skipping.{Stripped, stripped_none, stripped-more, s
 use Rattle.hex_colour.proofs.without_trailing_space.Statement.{statement}
 use Rattle.hex_colour.proofs.without_trailing_space.Tie as tie
 
-abbrev invariant-loop : tie.invariant-loop
+abbrev invariant-loop : tie.invariant-loop-end
 invariant-loop text end₀ end = Stripped space text end
 
-abbrev decreases-loop : tie.decreases-loop
+abbrev decreases-loop : tie.decreases-loop-end
 decreases-loop text end₀ end = end
 
-loop-holds : tie.Need-loop-init invariant-loop decreases-loop
+loop-holds : tie.Need-loop-end-init invariant-loop decreases-loop
 loop-holds c = stripped_none _
 
-sub-is-space : tie.Need-overflow-sub-is-space invariant-loop decreases-loop
+sub-is-space : tie.Need-overflow_sub-end invariant-loop decreases-loop
 sub-is-space c = omega arith
 
-shared-slice-read-is-space : tie.Need-shared-slice-read-is-space invariant-loop decreases-loop
+shared-slice-read-is-space : tie.Need-bounds-text-end invariant-loop decreases-loop
 shared-slice-read-is-space c = omega arith
 
-is-space-requires : tie.Need-is-space-requires invariant-loop decreases-loop
+is-space-requires : tie.Need-is_space-requires invariant-loop decreases-loop
 is-space-requires c κs = tt
 
-sub-end : tie.Need-overflow-sub-end invariant-loop decreases-loop
+sub-end : tie.Need-overflow_sub-end-in-loop-end invariant-loop decreases-loop
 sub-end c = omega arith
 
-loop-less : tie.Need-loop-smaller invariant-loop decreases-loop
+loop-less : tie.Need-loop-end-smaller invariant-loop decreases-loop
 loop-less c = omega arith
 
-loop-again : tie.Need-loop-preserved invariant-loop decreases-loop
-loop-again c = stripped-more c.before.before.before.before.loop.invariant c.before.before.before.loop-test.true (sym c.before.is-space.ensures ∙ c.if1.true)
+loop-again : tie.Need-loop-end-preserved invariant-loop decreases-loop
+loop-again c = stripped-more c.before.before.before.before.loop-end.invariant c.before.before.before.loop-end-test.true (sym c.before.is_space.ensures ∙ c.if-is_space.true)
 
-slice-aggregate-result : tie.Need-slice-aggregate-result invariant-loop decreases-loop
-slice-aggregate-result c = sym (length-take-le _ _ c.before.before.loop.invariant.inside)
+slice-aggregate-result : tie.Need-slice_bounds-result-end invariant-loop decreases-loop
+slice-aggregate-result c = sym (length-take-le _ _ c.before.before.loop-end.invariant.inside)
 
 returns : tie.Need-returns invariant-loop decreases-loop
 returns c =
-    let s = c.before.before.loop.invariant in
-    ⊎_elim (λ w. stripped-to s w.0.taken (sym w.2.ensures ∙ w.3.left)) (λ w. stripped_all s w.left) c.before.loop-test.branch
+    let s = c.before.before.loop-end.invariant in
+    ⊎_elim (λ w. stripped-to s w.0.taken (sym w.2.ensures ∙ w.3.left)) (λ w. stripped_all s w.left) c.before.loop-end-test.branch-raw
 
-pub without-trailing-space-spec : {M : Type 1} → statement M
-without-trailing-space-spec = tie.close (tie.spec invariant-loop decreases-loop loop-holds sub-is-space shared-slice-read-is-space is-space-requires sub-end loop-less loop-again slice-aggregate-result returns)
+pub without_trailing_space_spec : {M : Type 1} → statement M
+without_trailing_space_spec = tie.close (tie.spec
+    invariant-loop
+    decreases-loop
+    loop-holds
+    sub-is-space
+    shared-slice-read-is-space
+    is-space-requires
+    sub-end
+    loop-less
+    loop-again
+    slice-aggregate-result
+    returns)

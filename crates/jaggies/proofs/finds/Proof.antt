@@ -16,5 +16,7 @@ returns c old shown =
     let s = c.before.before in
     ap (λ (v : ℕ). eqb v s.args.a) (rw (to_z-of_z s.ranges.dy, to_z-of_z s.ranges.dx) at (c.look.ensures.0 old shown)) ∙ finds_paint _ _ _ _ _ s.requires.3
 
-pub finds-spec : {M : Type 1} → statement M
-finds-spec = tie.close (tie.spec look-requires returns)
+pub finds_spec : {M : Type 1} → statement M
+finds_spec = tie.close (tie.spec
+    look-requires
+    returns)

@@ -11,45 +11,53 @@ use Rattle.refusals.proofs.Rows.{sheet_room}
 use Rattle.jaggies.proofs.fix_jaggies.Statement.{statement}
 use Rattle.jaggies.proofs.fix_jaggies.Tie as tie
 
-sheet-refusal-requires : tie.Need-sheet-refusal-requires
+sheet-refusal-requires : tie.Need-sheet_refusal-requires
 sheet-refusal-requires c κs = search rules
 
-enum-known-row : tie.Need-enum-known-row
+enum-known-row : tie.Need-enum_known-row
 enum-known-row c = search rules
 
-returns : tie.Need-returns
+returns : tie.Need-returns-in-Refused
 unfolding jaggies_refusal jaggies_answer jaggies_cells needed
 returns c =
-    let e = filling_some c.before.before.before.sheet-refusal.ensures c.before.row.given.1 in
+    let e = filling_some c.before.before.before.sheet_refusal.ensures c.before.row-1.given.1 in
     (some_filling e, some_unless _ _ e)
 
-enum_told : tie.Need-enum-told
+enum_told : tie.Need-enum_told-1
 enum_told c = search rules
 
-abbrev start : tie.After-sheet-refusal → tie.Start
+abbrev start : tie.After-sheet_refusal → tie.Start
 start c = c.before.before
 
-fit : (c : tie.After-enum-told) → let a = (start c.before.before).args in Room a.h a.w (a.h * a.w) (length a.cells.now) (length a.work.now)
+fit : (c : tie.In_default) → let a = (start c.before.before).args in Room a.h a.w (a.h * a.w) (length a.cells-1.now) (length a.work-1.now)
 unfolding needed
-fit c = (sheet_room [] (filling_none c.before.before.sheet-refusal.ensures c.enum_told.given.1)).0
+fit c = (sheet_room [] (filling_none c.before.before.sheet_refusal.ensures c.enum_told-1.given.1)).0
 
-trim-sheet-requires : tie.Need-trim-sheet-requires
+trim-sheet-requires : tie.Need-trim_sheet-requires
 trim-sheet-requires c κs = let r = fit c.before.before in (r.high, r.wide, r.held, r.free)
 
-same_length : tie.Need-same-length
+same_length : tie.Need-shape_of-cells
 same_length c = search rules
 
-same-length-2 : tie.Need-same-length-2
+same-length-2 : tie.Need-shape_of-work
 same-length-2 c = search rules
 
-returns-2 : tie.Need-returns-2
+returns-2 : tie.Need-returns
 unfolding jaggies_refusal jaggies_answer jaggies_cells needed
 returns-2 c =
     let called = c.before.before.before in
     let past = called.before.before.before in
-    let e = filling_none past.before.before.sheet-refusal.ensures past.enum_told.given.1 in
-    (none_filling e, none_unless _ _ e called.trim-sheet.ensures)
+    let e = filling_none past.before.before.sheet_refusal.ensures past.enum_told-1.given.1 in
+    (none_filling e, none_unless _ _ e called.trim_sheet.ensures)
 
-pub fix-jaggies-spec : {M : Type 1} → statement M
-fix-jaggies-spec =
-    tie.close (tie.spec sheet-refusal-requires enum-known-row returns enum_told trim-sheet-requires same_length same-length-2 returns-2)
+pub fix_jaggies_spec : {M : Type 1} → statement M
+fix_jaggies_spec =
+    tie.close (tie.spec
+    sheet-refusal-requires
+    enum-known-row
+    returns
+    enum_told
+    trim-sheet-requires
+    same_length
+    same-length-2
+    returns-2)

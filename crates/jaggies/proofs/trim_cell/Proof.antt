@@ -28,62 +28,62 @@ own : (s : tie.Start) (old : List ℤ) → Held old s.args.work.now s.args.at.w 
     get_or s.args.work.now (2 * s.args.at.w + s.args.at.x) 0 ≡ paint_of (at old (place_of s.args.at))
 own s old held = rw (stands s) at (held.paint (place_of s.args.at) (omega (arith, s.requires)) (omega arith))
 
-mul-a : tie.Need-overflow-mul-a
+mul-a : tie.Need-overflow_mul-a
 mul-a c = search rules
 
-add_a : tie.Need-overflow-add-a
+add_a : tie.Need-overflow_add-a
 add_a c = search rules
 
-mul-a-2 : tie.Need-overflow-mul-a-2
+mul-a-2 : tie.Need-offset_bounds-work-w
 mul-a-2 c = search rules
 
-shared-slice-read-a : tie.Need-shared-slice-read-a
+shared-slice-read-a : tie.Need-bounds-work-w
 shared-slice-read-a c = search rules
 
-returns : tie.Need-returns
-returns c old held t = let s = c.before.before.before in stays t (inside s).0 (sym c.if1.true ∙ own s old held)
+returns : tie.Need-returns-then-a-eq0
+returns c old held t = let s = c.before.before.before in stays t (inside s).0 (sym c.if-a-eq0.true ∙ own s old held)
 
-trimmed-requires : tie.Need-trimmed-requires
+trimmed-requires : tie.Need-trimmed-b-requires
 trimmed-requires c κs =
     let s = c.before.before.before.before in
     let small = s.requires.paints.small (place_of s.args.at) (omega (arith, s.requires)) (omega arith) in
-    (s.requires, omega (arith, c.before.if1), rw (stands s) at small)
+    (s.requires, omega (arith, c.before.if-a-eq0), rw (stands s) at small)
 
-abbrev start : tie.After-trimmed → tie.Start
+abbrev start : tie.After-trimmed-b → tie.Start
 start c = c.before.before.before.before.before
 
-mul-p : tie.Need-overflow-mul-p
+mul-p : tie.Need-overflow_mul-p
 mul-p c = omega (arith, inside (start c.before))
 
-add-p : tie.Need-overflow-add-p
+add-p : tie.Need-overflow_add-p
 add-p c = omega (arith, inside (start c.before))
 
-sub_cells : tie.Need-overflow-sub-cells
+sub_cells : tie.Need-overflow_sub-cells
 sub_cells c = search rules
 
-cast-cells : tie.Need-overflow-cast-cells
+cast-cells : tie.Need-overflow_cast-cells
 cast-cells c = search rules
 
-mul-t10 : tie.Need-overflow-mul-t10
+mul-t10 : tie.Need-offset_bounds-cells-p
 mul-t10 c = omega (arith, inside (start c.before))
 
-slice-set-from-cells : tie.Need-slice-set-from-cells
-slice-set-from-cells c = let s = start c.before in omega (arith, inside s, s.pre)
+slice-set-from-cells : tie.Need-bounds-cells-p
+slice-set-from-cells c = let s = start c.before in omega (arith, inside s, s.requires)
 
-same_length : tie.Need-same-length
+same_length : tie.Need-shape_of-cells
 same_length c = search rules
 
-returns-2 : tie.Need-returns-2
+returns-2 : tie.Need-returns
 returns-2 c old held t =
     let r = c.before in
     let n = r.before.before in
     let s = n.before.before.before in
-    let b = r.trimmed.ensures.1 in
-    rw (to_z_pos w32 {n = r.trimmed.result - 1} (omega arith))
-    (becomes t (inside s).0 _ _ (own s old held) (omega (arith, n.if1)) (r.trimmed.ensures.0 old (shown s.requires.col held t)) b.0)
+    let b = r.trimmed-b.ensures.1 in
+    rw (to_z_pos w32 {n = r.trimmed-b.result - 1} (omega arith))
+    (becomes t (inside s).0 _ _ (own s old held) (omega (arith, n.if-a-eq0)) (r.trimmed-b.ensures.0 old (shown s.requires.col held t)) b.0)
 
-pub trim-cell-spec : {M : Type 1} → statement M
-trim-cell-spec =
+pub trim_cell_spec : {M : Type 1} → statement M
+trim_cell_spec =
     tie.close
     (tie.spec
     mul-a

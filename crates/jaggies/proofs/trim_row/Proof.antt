@@ -10,50 +10,50 @@ use Rattle.jaggies.proofs.Rows.{Turns, same_room}
 use Rattle.jaggies.proofs.trim_row.Statement.{statement}
 use Rattle.jaggies.proofs.trim_row.Tie as tie
 
-abbrev invariant-loop : tie.invariant-loop
+abbrev invariant-loop : tie.invariant-loop-x
 invariant-loop cells₀ work h w y x₀ cells x =
     Turns x w cells₀ cells ((old : List ℤ) → Held old work w (y * w + w) → Trimmed old h w (y * w) cells₀ → Trimmed old h w (y * w + x) cells)
 
-abbrev decreases-loop : tie.decreases-loop
+abbrev decreases-loop : tie.decreases-loop-x
 decreases-loop cells₀ work h w y x₀ cells x = w - x
 
-loop-holds : tie.Need-loop-init invariant-loop decreases-loop
+loop-holds : tie.Need-loop-x-init invariant-loop decreases-loop
 loop-holds c = record { below = omega arith; same = refl; done = λ old held t. rw add-zero t }
 
-trim-cell-requires : tie.Need-trim-cell-requires invariant-loop decreases-loop
+trim-cell-requires : tie.Need-trim_cell-requires invariant-loop decreases-loop
 trim-cell-requires c κs =
     let l = c.before in
-    same_room l.before.loop.invariant.same (l.before.before.before.requires l.before.loop.x l.loop-test.true)
+    same_room l.before.loop-x.invariant.same (l.before.before.before.requires l.before.loop-x.x l.loop-x-test.true)
 
-add-x : tie.Need-overflow-add-x invariant-loop decreases-loop
+add-x : tie.Need-overflow_step-x invariant-loop decreases-loop
 add-x c = let l = c.before.before.before in omega (arith, l.before.before.before.ranges.w)
 
-loop-less : tie.Need-loop-smaller invariant-loop decreases-loop
+loop-less : tie.Need-loop-x-smaller invariant-loop decreases-loop
 loop-less c = omega arith
 
-loop-again : tie.Need-loop-preserved invariant-loop decreases-loop
+loop-again : tie.Need-loop-x-preserved invariant-loop decreases-loop
 loop-again c =
     let cut = c.before in
     let l = cut.before.before in
-    let inv = l.before.loop.invariant in
+    let inv = l.before.loop-x.invariant in
     let a = l.before.before.before.args in
-    let next : a.y * a.w + l.before.loop.x + 1 ≡ a.y * a.w + (l.before.loop.x + 1) = omega arith in
+    let next : a.y * a.w + l.before.loop-x.x + 1 ≡ a.y * a.w + (l.before.loop-x.x + 1) = omega arith in
     record {
-      below = omega (arith, l.loop-test.true);
-      same = cut.trim-cell.auto.0 ∙ inv.same;
-      done = λ old held t. rw next at (cut.trim-cell.ensures old held (inv.done old held t));
+      below = omega (arith, l.loop-x-test.true);
+      same = cut.trim_cell.auto.0 ∙ inv.same;
+      done = λ old held t. rw next at (cut.trim_cell.ensures old held (inv.done old held t));
     }
 
-same_length : tie.Need-same-length invariant-loop decreases-loop
-same_length c = c.before.loop.invariant.same
+same_length : tie.Need-shape_of-cells invariant-loop decreases-loop
+same_length c = c.before.loop-x.invariant.same
 
 returns : tie.Need-returns invariant-loop decreases-loop
 returns c old held t =
-    let all : c.before.loop.x ≡ c.before.before.before.args.w = omega arith in
-    rw all at (c.before.loop.invariant.done old held t)
+    let all : c.before.loop-x.x ≡ c.before.before.before.args.w = omega arith in
+    rw all at (c.before.loop-x.invariant.done old held t)
 
-pub trim-row-spec : {M : Type 1} → statement M
-trim-row-spec =
+pub trim_row_spec : {M : Type 1} → statement M
+trim_row_spec =
     tie.close
     (tie.spec
     invariant-loop

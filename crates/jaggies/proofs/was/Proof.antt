@@ -6,47 +6,47 @@ use Rattle.jaggies.specs.Rows.{paint_at}
 use Rattle.jaggies.proofs.was.Statement.{statement}
 use Rattle.jaggies.proofs.was.Tie as tie
 
-returns : tie.Need-returns
+returns : tie.Need-returns-then-q-end
 unfolding paint_at
 returns c =
     let s = c.before.before.before in
-    let t = c.before.if1.true in
+    let t = c.before.if-q-end.true in
     (rw (lt-ltb s.args.q s.args.end t), s.requires.1 t)
 
-returns-2 : tie.Need-returns-2
+returns-2 : tie.Need-returns
 unfolding paint_at
 returns-2 c =
-    let p = rw (to_z-of_z (record { sfits = c.before.paint-arg.given })) at c.paint.ensures.0 in
-    (rw (le-ltb _ _ c.before.before.if1.false) p, c.paint.ensures.1)
+    let p = rw (to_z-of_z (record { sfits = c.before.paint-arg-1.given })) at c.paint.ensures.0 in
+    (rw (le-ltb _ _ c.before.before.if-q-end.false) p, c.paint.ensures.1)
 
 -- ---- what is asked on the way
 
-mul-result : tie.Need-overflow-mul-result
+mul-result : tie.Need-overflow_mul-result
 mul-result c = search rules
 
-add-result : tie.Need-overflow-add-result
+add-result : tie.Need-overflow_add-result
 add-result c = search rules
 
-sub-result : tie.Need-overflow-sub-result
+sub-result : tie.Need-overflow_sub-result
 sub-result c = search rules
 
-mul-result-2 : tie.Need-overflow-mul-result-2
+mul-result-2 : tie.Need-offset_bounds-work-q
 mul-result-2 c = search rules
 
-shared-slice-read-result : tie.Need-shared-slice-read-result
+shared-slice-read-result : tie.Need-bounds-work-q
 shared-slice-read-result c = search rules
 
-mul-paint : tie.Need-overflow-mul-paint
+mul-paint : tie.Need-offset_bounds-cells-q
 mul-paint c = search rules
 
-shared-slice-copy-out-paint : tie.Need-shared-slice-copy-out-paint
+shared-slice-copy-out-paint : tie.Need-bounds-cells-q
 shared-slice-copy-out-paint c = search rules
 
 paint-requires : tie.Need-paint-requires
 paint-requires c κs = search rules
 
-pub was-spec : {M : Type 1} → statement M
-was-spec =
+pub was_spec : {M : Type 1} → statement M
+was_spec =
     tie.close
     (tie.spec
     mul-result

@@ -24,132 +24,132 @@ use Rattle.orphans.proofs.remove_orphans.Tie as tie
 
 -- ---- the call
 
-abbrev start : tie.After-sheet-refusal → tie.Start
+abbrev start : tie.After-sheet_refusal → tie.Start
 start c = c.before.before.before
 
-abbrev call : tie.After-sheet-refusal → OrphansCall
+abbrev call : tie.After-sheet_refusal → OrphansCall
 call c =
     let s = (start c).args in
     record {
-      lent = lent_sheet s.cells.now s.h s.w (length s.work.now);
+      lent = lent_sheet s.cells-1.now s.h s.w (length s.work-1.now);
       palette = palette_of s.palette.now s.k;
       limits = limits_at s.orphan-min-region s.orphan-max-delta;
       passes = s.max-passes;
     }
 
 -- the region limit comes back from its 32 bits
-back : (c : tie.After-sheet-refusal) → to_z w32 (of_z w32 (start c).args.orphan-min-region) ≡ (start c).args.orphan-min-region
+back : (c : tie.After-sheet_refusal) → to_z w32 (of_z w32 (start c).args.orphan-min-region) ≡ (start c).args.orphan-min-region
 back c = to_z-of_z (start c).ranges.orphan-min-region
 
 -- ---- rows 1 to 3
 
-abbrev seen : tie.After-enum-told → tie.After-sheet-refusal
+abbrev seen : tie.In_default → tie.After-sheet_refusal
 seen c = c.before.before
 
-one : (c : tie.After-enum-told) → refusal (lent_rows (call (seen c)).lent false) ≡ none
-one c = filling_none (seen c).sheet-refusal.ensures c.enum_told.given.1
+one : (c : tie.In_default) → refusal (lent_rows (call (seen c)).lent false) ≡ none
+one c = filling_none (seen c).sheet_refusal.ensures c.enum_told-1.given.1
 
 -- ---- rows 4 to 6
 
-abbrev roomy : tie.After-palette-refusal → tie.After-enum-told
+abbrev roomy : tie.After-palette_refusal → tie.In_default
 roomy c = c.before.before
 
-settings : (c : tie.After-palette-refusal) → let k = call (seen (roomy c)) in c.palette-refusal.result ≡ filling (refusal (palette_rows k.palette (bad_limits k.limits k.passes)))
+settings : (c : tie.After-palette_refusal) → let k = call (seen (roomy c)) in c.palette_refusal.result ≡ filling (refusal (palette_rows k.palette (bad_limits k.limits k.passes)))
 unfolding bad_limits
 settings c =
     let k = call (seen (roomy c)) in
-    c.palette-refusal.ensures ∙ ap (λ (b : Bool). filling (refusal (palette_rows k.palette b))) c.before.bad-limits.ensures
+    c.palette_refusal.ensures ∙ ap (λ (b : Bool). filling (refusal (palette_rows k.palette b))) c.before.bad_limits-bad.ensures
 
-abbrev entered : tie.After-enum-told2 → tie.After-enum-told
+abbrev entered : tie.In_default-palette_refusal → tie.In_default
 entered c = roomy c.before.before
 
-two : (c : tie.After-enum-told2) → let k = call (seen (entered c)) in refusal (palette_rows k.palette (bad_limits k.limits k.passes)) ≡ none
-two c = filling_none (settings c.before.before) c.enum-told2.given.1
+two : (c : tie.In_default-palette_refusal) → let k = call (seen (entered c)) in refusal (palette_rows k.palette (bad_limits k.limits k.passes)) ≡ none
+two c = filling_none (settings c.before.before) c.enum_told-in_default-palette_refusal-1.given.1
 
 -- ---- row 7
 
-abbrev usable : tie.After-bad-index → tie.After-enum-told2
+abbrev usable : tie.After-bad_index → tie.In_default-palette_refusal
 usable c = c.before.before
 
-index : (c : tie.After-bad-index) → unnamed (call (seen (entered (usable c)))) ≡ c.bad-index.result
-index c = sym (rw (back (seen (entered (usable c)))) at c.bad-index.ensures)
+index : (c : tie.After-bad_index) → unnamed (call (seen (entered (usable c)))) ≡ c.bad_index.result
+index c = sym (rw (back (seen (entered (usable c)))) at c.bad_index.ensures)
 
-returns : tie.Need-returns
+returns : tie.Need-returns-in-Refused
 returns c =
     let r = c.before.before.before in
-    met_refused (call r) _ (by_sheet (call r) (filling_some r.sheet-refusal.ensures c.before.row.given.1))
+    met_refused (call r) _ (by_sheet (call r) (filling_some r.sheet_refusal.ensures c.before.row-1.given.1))
 
-returns-2 : tie.Need-returns-2
+returns-2 : tie.Need-returns-in-Refused-palette_refusal
 returns-2 c =
     let r = c.before.before.before in
     let e = roomy r in
     let k = call (seen e) in
-    met_refused k _ (by_palette k (one e) (filling_some (settings r) c.before.row2.given.1))
+    met_refused k _ (by_palette k (one e) (filling_some (settings r) c.before.row-in-Refused-palette_refusal-1.given.1))
 
-returns-3 : tie.Need-returns-3
+returns-3 : tie.Need-returns-then-bad_index
 returns-3 c =
     let u = usable c.before in
     let e = entered u in
     let k = call (seen e) in
-    met_refused k _ (by_index k (one e) (two u) (index c.before ∙ c.if1.true))
+    met_refused k _ (by_index k (one e) (two u) (index c.before ∙ c.if-bad_index.true))
 
-returns-4 : tie.Need-returns-4
+returns-4 : tie.Need-returns
 returns-4 c =
     let v = c.before.before.before in
     let n = v.before.before.before in
     let u = usable n.before in
     let e = entered u in
     let k = call (seen e) in
-    let z = index n.before ∙ n.if1.false in
-    met_cleaned k (accepted k (one e) (two u) z) _ _ (rw (back (seen e)) at v.clean-sheet.ensures.0) (rw (back (seen e)) at v.clean-sheet.ensures.1)
+    let z = index n.before ∙ n.if-bad_index.false in
+    met_cleaned k (accepted k (one e) (two u) z) _ _ (rw (back (seen e)) at v.clean_sheet-count.ensures.0) (rw (back (seen e)) at v.clean_sheet-count.ensures.1)
 
-sheet-refusal-requires : tie.Need-sheet-refusal-requires
+sheet-refusal-requires : tie.Need-sheet_refusal-requires
 sheet-refusal-requires c κs = search rules
 
-enum-known-row : tie.Need-enum-known-row
+enum-known-row : tie.Need-enum_known-row
 enum-known-row c = search rules
 
-enum_told : tie.Need-enum-told
+enum_told : tie.Need-enum_told-1
 enum_told c = search rules
 
-bad-limits-requires : tie.Need-bad-limits-requires
+bad-limits-requires : tie.Need-bad_limits-bad-requires
 bad-limits-requires c κs = search rules
 
-palette-refusal-requires : tie.Need-palette-refusal-requires
+palette-refusal-requires : tie.Need-palette_refusal-requires
 palette-refusal-requires c κs = search rules
 
-enum-known-row-2 : tie.Need-enum-known-row-2
+enum-known-row-2 : tie.Need-enum_known-row-in-Refused-palette_refusal
 enum-known-row-2 c = search rules
 
-enum-told-2 : tie.Need-enum-told-2
+enum-told-2 : tie.Need-enum_told-in_default-palette_refusal
 enum-told-2 c = search rules
 
-mul-bad-index : tie.Need-overflow-mul-bad-index
+mul-bad-index : tie.Need-overflow_mul-h
 mul-bad-index c = omega (arith, (sheet_room [] (one (entered c.before))).0.few)
 
-bad-index-requires : tie.Need-bad-index-requires
+bad-index-requires : tie.Need-bad_index-requires
 unfolding needed
 bad-index-requires c κs = let u = c.before in ((palette_room [] (two u)).0.few, (sheet_room [] (one (entered u))).0.held)
 
-clean-sheet-requires : tie.Need-clean-sheet-requires
+clean-sheet-requires : tie.Need-clean_sheet-count-requires
 clean-sheet-requires c κs =
     let n = c.before.before in
     let u = usable n.before in
     let e = entered u in
     let k = call (seen e) in
-    rw (back (seen e)) (fits k (one e) (two u) (index n.before ∙ n.if1.false))
+    rw (back (seen e)) (fits k (one e) (two u) (index n.before ∙ n.if-bad_index.false))
 
-same_length : tie.Need-same-length
+same_length : tie.Need-shape_of-cells-then-bad_index
 same_length c = search rules
 
-same-length-2 : tie.Need-same-length-2
+same-length-2 : tie.Need-shape_of-cells
 same-length-2 c = search rules
 
-same-length-3 : tie.Need-same-length-3
+same-length-3 : tie.Need-shape_of-work
 same-length-3 c = search rules
 
-pub remove-orphans-spec : {M : Type 1} → statement M
-remove-orphans-spec =
+pub remove_orphans_spec : {M : Type 1} → statement M
+remove_orphans_spec =
     tie.close
     (tie.spec
     sheet-refusal-requires

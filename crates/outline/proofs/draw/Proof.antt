@@ -12,71 +12,71 @@ use Rattle.outline.proofs.Drawn.{drew_none, drew_ring}
 use Rattle.outline.proofs.draw.Statement.{statement}
 use Rattle.outline.proofs.draw.Tie as tie
 
-abbrev chosen : tie.After-mark-ring → tie.After-choose
+abbrev chosen : tie.After-mark_ring → tie.After-choose-chosen
 chosen c = c.before.before.before.before.before
 
-abbrev start : tie.After-choose → tie.Start
+abbrev start : tie.After-choose-chosen → tie.Start
 start c = c.before.before.before.before.before.before.before.before.before
 
-small : (c : tie.After-choose) → c.choose.result.index < 256
-small c = rw c.choose.ensures.at (index_below _ _ _ _ (start c).requires.1.1)
+small : (c : tie.After-choose-chosen) → c.choose-chosen.result.index < 256
+small c = rw c.choose-chosen.ensures.at (index_below _ _ _ _ (start c).requires.1.1)
 
-has-ring-requires : tie.Need-has-ring-requires
+has-ring-requires : tie.Need-has_ring-requires
 has-ring-requires c κs = search rules
 
-same_length : tie.Need-same-length
+same_length : tie.Need-shape_of-cells-then-not-has_ring
 same_length c = search rules
 
-returns : tie.Need-returns
+returns : tie.Need-returns-then-not-has_ring
 returns c =
     let s = c.before.before.before.before.before in
-    drew_none _ _ _ _ _ _ s.requires.0.room (sym c.before.has-ring.ensures ∙ not_true c.before.has-ring.result c.if1.true)
+    drew_none _ _ _ _ _ _ s.requires.0.room (sym c.before.has_ring.ensures ∙ not_true c.before.has_ring.result c.if-not-has_ring.true)
 
-outline-color-lab-requires : tie.Need-outline-color-lab-requires
+outline-color-lab-requires : tie.Need-outline_color_lab-c-requires
 outline-color-lab-requires c κs = search rules
 
-choose-requires : tie.Need-choose-requires
+choose-requires : tie.Need-choose-chosen-requires
 choose-requires c κs = search rules
 
-mark-ring-requires : tie.Need-mark-ring-requires
+mark-ring-requires : tie.Need-mark_ring-requires
 mark-ring-requires c κs = search rules
 
-mul-ink : tie.Need-overflow-mul-ink
+mul-ink : tie.Need-overflow_mul-h
 mul-ink c = search rules
 
 ink-requires : tie.Need-ink-requires
 ink-requires c κs =
     let m = c.before.before.before.before in
     let s = start (chosen m) in
-    (s.pre.0.room, omega (arith, m.mark-ring.auto.1.1.1.0, s.pre.1.2), omega (arith, small (chosen m)))
+    (s.requires.0.room, omega (arith, m.mark_ring.auto.1.1.1.0, s.requires.1.2), omega (arith, small (chosen m)))
 
-cast-t33 : tie.Need-overflow-cast-t33
+cast-t33 : tie.Need-overflow_cast-result
 cast-t33 c = record { fits = omega (arith, small (chosen c.before.before.before.before.before.before)) }
 
-same-length-2 : tie.Need-same-length-2
+same-length-2 : tie.Need-shape_of-cells
 same-length-2 c = search rules
 
-same-length-3 : tie.Need-same-length-3
+same-length-3 : tie.Need-shape_of-palette
 same-length-3 c = search rules
 
-same-length-4 : tie.Need-same-length-4
+same-length-4 : tie.Need-shape_of-work
 same-length-4 c = search rules
 
-returns-2 : tie.Need-returns-2
+returns-2 : tie.Need-returns
 unfolding painted
 returns-2 c =
     let m = c.before.before.before.before.before.before in
     let d = chosen m in
     let s = start d in
     let l = d.before.before in
-    drew_ring _ _ _ _ _ _ s.pre.0.room
-    (sym l.before.before.before.has-ring.ensures ∙ not_false l.before.before.before.has-ring.result l.before.before.if1.left) _ _ _ _
-    _ l.outline-color-lab.ensures d.choose.ensures
-    (c.before.ink.ensures ∙ ap (λ (k : List ℕ). filled (s.args.size.h * s.args.size.w) (painted s.args.cells.now k d.choose.result.index) s.args.cells.now) m.mark-ring.ensures
-    ∙ inked-is _ _ _ _ _ s.pre.0.room)
+    drew_ring _ _ _ _ _ _ s.requires.0.room
+    (sym l.before.before.before.has_ring.ensures ∙ not_false l.before.before.before.has_ring.result l.before.before.if-not-has_ring.false) _ _ _ _
+    _ l.outline_color_lab-c.ensures d.choose-chosen.ensures
+    (c.before.ink.ensures ∙ ap (λ (k : List ℕ). filled (s.args.size.h * s.args.size.w) (painted s.args.cells.now k d.choose-chosen.result.index) s.args.cells.now) m.mark_ring.ensures
+    ∙ inked-is _ _ _ _ _ s.requires.0.room)
 
-pub draw-spec : {M : Type 1} → statement M
-draw-spec =
+pub draw_spec : {M : Type 1} → statement M
+draw_spec =
     tie.close
     (tie.spec
     has-ring-requires

@@ -13,76 +13,76 @@ use Rattle.outline_entry.proofs.Choosing.{chose_fixed, chose_same, chose_append,
 use Rattle.outline_entry.proofs.choose.Statement.{statement}
 use Rattle.outline_entry.proofs.choose.Tie as tie
 
-abbrev start : tie.After-first-same → tie.Start
+abbrev start : tie.After-first_same → tie.Start
 start c = c.before.before.before.before.before
 
-answer : (c : tie.After-first-same) → found (first_where (λ i. same_rgb8 (lab_to_rgb8 (colour (palette_of (start c).args.palette.now (start c).args.k) i)) (lab_to_rgb8 (start c).args.c)) (start c).args.k) ≡ c.first-same.result
-answer c = sym (c.first-same.ensures ∙ ap (λ (x : Rgb8). found (first_where (λ i. same_rgb8 (lab_to_rgb8 (colour (palette_of (start c).args.palette.now (start c).args.k) i)) x) (start c).args.k)) c.before.lab-to-rgb8-one.ensures)
+answer : (c : tie.After-first_same) → found (first_where (λ i. same_rgb8 (lab_to_rgb8 (colour (palette_of (start c).args.palette.now (start c).args.k) i)) (lab_to_rgb8 (start c).args.c)) (start c).args.k) ≡ c.first_same.result
+answer c = sym (c.first_same.ensures ∙ ap (λ (x : Rgb8). found (first_where (λ i. same_rgb8 (lab_to_rgb8 (colour (palette_of (start c).args.palette.now (start c).args.k) i)) x) (start c).args.k)) c.before.lab_to_rgb8_one.ensures)
 
-nearest-entry-requires : tie.Need-nearest-entry-requires
+nearest-entry-requires : tie.Need-nearest_entry-i-requires
 nearest-entry-requires c κs = search rules
 
-same_length : tie.Need-same-length
+same_length : tie.Need-shape_of-palette-then-fixed
 same_length c = search rules
 
-returns : tie.Need-returns
-returns c = rw c.before.before.if1.true (chose_fixed _ _ _ c.nearest-entry.ensures)
+returns : tie.Need-returns-then-fixed
+returns c = rw c.before.before.if-fixed.true (chose_fixed _ _ _ c.nearest_entry-i.ensures)
 
-lab-to-rgb8-one-requires : tie.Need-lab-to-rgb8-one-requires
+lab-to-rgb8-one-requires : tie.Need-lab_to_rgb8_one-requires
 lab-to-rgb8-one-requires c κs = search rules
 
-first-same-requires : tie.Need-first-same-requires
+first-same-requires : tie.Need-first_same-requires
 first-same-requires c κs = search rules
 
-enum-known-i : tie.Need-enum-known-i
+enum-known-i : tie.Need-enum_known-i
 enum-known-i c = search rules
 
-same-length-2 : tie.Need-same-length-2
+same-length-2 : tie.Need-shape_of-palette-in-At
 same-length-2 c = search rules
 
-returns-2 : tie.Need-returns-2
+returns-2 : tie.Need-returns-in-At
 returns-2 c =
     let f = c.before.before.before in
-    rw f.before.before.before.if1.false (chose_same _ _ _ (answer f ∙ c.before.i.given.1))
+    rw f.before.before.before.if-fixed.false (chose_same _ _ _ (answer f ∙ c.before.i-1.given.1))
 
-enum_told : tie.Need-enum-told
+enum_told : tie.Need-enum_told-1
 enum_told c = search rules
 
 recolour-requires : tie.Need-recolour-requires
 recolour-requires c κs = search rules
 
-add-t18 : tie.Need-overflow-add-t18
+add-t18 : tie.Need-overflow_add-result
 add-t18 c = search rules
 
-same-length-3 : tie.Need-same-length-3
+same-length-3 : tie.Need-shape_of-palette-then-k-lt256
 same-length-3 c = search rules
 
-returns-3 : tie.Need-returns-3
+returns-3 : tie.Need-returns-then-k-lt256
 returns-3 c =
     let r = c.before.before in
     let n = r.before.before.before in
     let f = n.before.before in
-    rw f.before.before.before.if1.false (chose_append _ _ (answer f ∙ n.enum_told.given.1) _ r.before.before.if2.true r.recolour.ensures)
+    rw f.before.before.before.if-fixed.false (chose_append _ _ (answer f ∙ n.enum_told-1.given.1) _ r.before.before.if-k-lt256.true r.recolour.ensures)
 
-nearest-entry-requires-2 : tie.Need-nearest-entry-requires-2
+nearest-entry-requires-2 : tie.Need-nearest_entry-i-requires-2
 nearest-entry-requires-2 c κs = search rules
 
 recolour-requires-2 : tie.Need-recolour-requires-2
 recolour-requires-2 c κs =
     let m = c.before in
     let s = start m.before.before.before.before.before in
-    omega (arith, m.nearest-entry2.ensures, nearest-below (λ i. true) (palette_of s.args.palette.now s.args.k) s.args.c s.pre.1)
+    omega (arith, m.nearest_entry-i-2.ensures, nearest-below (λ i. true) (palette_of s.args.palette.now s.args.k) s.args.c s.requires.1)
 
-same-length-4 : tie.Need-same-length-4
+same-length-4 : tie.Need-shape_of-palette
 same-length-4 c = search rules
 
-returns-4 : tie.Need-returns-4
+returns-4 : tie.Need-returns
 returns-4 c =
     let r = c.before.before in
     let m = r.before.before in
     let n = m.before.before.before in
     let f = n.before.before in
-    rw f.before.before.before.if1.false (chose_replace _ _ (answer f ∙ n.enum_told.given.1) _ _ m.before.before.if2.false m.nearest-entry2.ensures r.recolour2.ensures)
+    rw f.before.before.before.if-fixed.false (chose_replace _ _ (answer f ∙ n.enum_told-1.given.1) _ _ m.before.before.if-k-lt256.false m.nearest_entry-i-2.ensures r.recolour-2.ensures)
 
 pub choose_spec : {M : Type 1} → statement M
 choose_spec =

@@ -10,5 +10,6 @@ returns : tie.Need-returns
 unfolding darkened decimal round of_bits
 returns c = refl
 
-pub darkened-spec : {M : Type 1} → statement M
-darkened-spec = tie.close (tie.spec returns)
+pub darkened_spec : {M : Type 1} → statement M
+darkened_spec = tie.close (tie.spec
+    returns)

@@ -19,57 +19,57 @@ use Rattle.outline_entry.proofs.first_same_by.Tie as tie
 same : List Float → ℕ → Rgb8 → ℕ → Bool
 same l k rgb i = same_rgb8 (lab_to_rgb8 (colour (palette_of l k) i)) rgb
 
-abbrev invariant-loop : tie.invariant-loop
+abbrev invariant-loop : tie.invariant-loop-i
 invariant-loop table palette k rgb i₀ i = (i ≤ k) × (first_where (same palette k rgb) i ≡ none)
 
-abbrev decreases-loop : tie.decreases-loop
+abbrev decreases-loop : tie.decreases-loop-i
 decreases-loop table palette k rgb i₀ i = k - i
 
-start : tie.After-same-rgb8 invariant-loop decreases-loop → tie.Start invariant-loop decreases-loop
+start : tie.After-same_rgb8 invariant-loop decreases-loop → tie.Start invariant-loop decreases-loop
 start c = c.before.before.before.before.before.before.before
 
-tested : (c : tie.After-same-rgb8 invariant-loop decreases-loop) {b : Bool} → c.same-rgb8.result ≡ b
-    → same (start c).args.palette.now (start c).args.k (start c).args.rgb c.before.before.before.before.loop.i ≡ b
+tested : (c : tie.After-same_rgb8 invariant-loop decreases-loop) {b : Bool} → c.same_rgb8.result ≡ b
+    → same (start c).args.palette.now (start c).args.k (start c).args.rgb c.before.before.before.before.loop-i.i ≡ b
 unfolding same colour start
 tested c e =
-    ap (λ (x : Rgb8). same_rgb8 x (start c).args.rgb) (sym (c.before.lab-to-rgb8-by.ensures ∙ ap lab_to_rgb8 c.before.before.entry.ensures)) ∙ sym c.same-rgb8.ensures ∙ e
+    ap (λ (x : Rgb8). same_rgb8 x (start c).args.rgb) (sym (c.before.lab_to_rgb8_by.ensures ∙ ap lab_to_rgb8 c.before.before.entry.ensures)) ∙ sym c.same_rgb8.ensures ∙ e
 
-loop-holds : tie.Need-loop-init invariant-loop decreases-loop
+loop-holds : tie.Need-loop-i-init invariant-loop decreases-loop
 loop-holds c = (omega arith, where_none _)
 
 entry-requires : tie.Need-entry-requires invariant-loop decreases-loop
 entry-requires c κs = omega arith
 
-lab-to-rgb8-by-requires : tie.Need-lab-to-rgb8-by-requires invariant-loop decreases-loop
+lab-to-rgb8-by-requires : tie.Need-lab_to_rgb8_by-requires invariant-loop decreases-loop
 lab-to-rgb8-by-requires c κs = search rules
 
-same-rgb8-requires : tie.Need-same-rgb8-requires invariant-loop decreases-loop
+same-rgb8-requires : tie.Need-same_rgb8-requires invariant-loop decreases-loop
 same-rgb8-requires c κs = tt
 
-returns : tie.Need-returns invariant-loop decreases-loop
+returns : tie.Need-returns-then-same_rgb8 invariant-loop decreases-loop
 unfolding same found start
 returns c =
     let l = c.before.before.before.before.before in
-    sym (ap found (where_hit _ _ _ c.before.before.before.before.loop-test.true l.loop.invariant.1 (tested c.before c.if1.true)))
+    sym (ap found (where_hit _ _ _ c.before.before.before.before.loop-i-test.true l.loop-i.invariant.1 (tested c.before c.if-same_rgb8.true)))
 
-add-i : tie.Need-overflow-add-i invariant-loop decreases-loop
+add-i : tie.Need-overflow_step-i invariant-loop decreases-loop
 add-i c = omega arith
 
-loop-less : tie.Need-loop-smaller invariant-loop decreases-loop
+loop-less : tie.Need-loop-i-smaller invariant-loop decreases-loop
 loop-less c = omega arith
 
-loop-again : tie.Need-loop-preserved invariant-loop decreases-loop
+loop-again : tie.Need-loop-i-preserved invariant-loop decreases-loop
 unfolding start
-loop-again c = (omega arith, where_more _ _ c.before.before.before.before.before.loop.invariant.1 (tested c.before c.if1.false))
+loop-again c = (omega arith, where_more _ _ c.before.before.before.before.before.loop-i.invariant.1 (tested c.before c.if-same_rgb8.false))
 
-returns-2 : tie.Need-returns-2 invariant-loop decreases-loop
+returns-2 : tie.Need-returns invariant-loop decreases-loop
 unfolding same found
 returns-2 c =
-    let e : c.before.loop.i ≡ c.before.before.before.before.args.k = omega arith in
-    sym (ap found (rw e at c.before.loop.invariant.1))
+    let e : c.before.loop-i.i ≡ c.before.before.before.before.args.k = omega arith in
+    sym (ap found (rw e at c.before.loop-i.invariant.1))
 
-pub first-same-by-spec : {M : Type 1} → statement M
-first-same-by-spec =
+pub first_same_by_spec : {M : Type 1} → statement M
+first_same_by_spec =
     tie.close
     (tie.spec
     invariant-loop

@@ -10,52 +10,52 @@ use Rattle.outline_entry.proofs.Scans.{darkest-below}
 use Rattle.outline_entry.proofs.outline_color_lab.Statement.{statement}
 use Rattle.outline_entry.proofs.outline_color_lab.Tie as tie
 
-enum_told : tie.Need-enum-told
+enum_told : tie.Need-enum_told-1
 enum_told c = search rules
 
 entry-requires : tie.Need-entry-requires
 entry-requires c κs = search rules
 
-enum-known-outline : tie.Need-enum-known-outline
+enum-known-outline : tie.Need-enum_known-outline
 enum-known-outline c = search rules
 
-darkest-requires : tie.Need-darkest-requires
+darkest-requires : tie.Need-darkest-i-requires
 darkest-requires c κs = search rules
 
-entry-requires-2 : tie.Need-entry-requires-2
+entry-requires-2 : tie.Need-entry-requires-in-Auto
 entry-requires-2 c κs =
     let s = c.before.before.before.before.before in
-    omega (arith, c.darkest.ensures, darkest-below (palette_of s.args.palette.now s.args.k) s.requires.1)
+    omega (arith, c.darkest-i.ensures, darkest-below (palette_of s.args.palette.now s.args.k) s.requires.1)
 
 darkened-requires : tie.Need-darkened-requires
 darkened-requires c κs = search rules
 
-enum-known-outline-2 : tie.Need-enum-known-outline-2
+enum-known-outline-2 : tie.Need-enum_known-outline-in-Rgb-1
 enum-known-outline-2 c = search rules
 
-rgb8-to-lab-one-requires : tie.Need-rgb8-to-lab-one-requires
+rgb8-to-lab-one-requires : tie.Need-rgb8_to_lab_one-requires
 rgb8-to-lab-one-requires c κs = search rules
 
-returns : tie.Need-returns
+returns : tie.Need-returns-in-None
 unfolding line_colour colour
-returns c = rw c.before.enum_told.given.1 c.entry.ensures
+returns c = rw c.before.enum_told-1.given.1 c.entry.ensures
 
-returns-2 : tie.Need-returns-2
+returns-2 : tie.Need-returns-in-Auto
 unfolding line_colour colour
 returns-2 c =
     let d = c.before.before in
     let o = d.before.before in
     let s = o.before.before.before in
-    rw o.outline.given.1
+    rw o.outline-1.given.1
     (c.darkened.ensures
-    ∙ ap (λ (x : Lab). darkened o.outline.given.0.0 x) (c.before.entry2.ensures ∙ ap (λ (i : ℕ). colour (palette_of s.args.palette.now s.args.k) i) d.darkest.ensures))
+    ∙ ap (λ (x : Lab). darkened o.outline-1.given.0.0 x) (c.before.entry-in-Auto.ensures ∙ ap (λ (i : ℕ). colour (palette_of s.args.palette.now s.args.k) i) d.darkest-i.ensures))
 
-returns-3 : tie.Need-returns-3
+returns-3 : tie.Need-returns-in-Rgb
 unfolding line_colour
-returns-3 c = rw c.before.before.outline2.given.1 c.rgb8-to-lab-one.ensures
+returns-3 c = rw c.before.before.outline-in-Rgb-1.given.1 c.rgb8_to_lab_one.ensures
 
-pub outline-color-lab-spec : {M : Type 1} → statement M
-outline-color-lab-spec =
+pub outline_color_lab_spec : {M : Type 1} → statement M
+outline_color_lab_spec =
     tie.close
     (tie.spec
     enum_told

@@ -5,19 +5,23 @@ use Rattle.outline_entry.specs.Line.{placed}
 use Rattle.outline_entry.proofs.place.Statement.{statement}
 use Rattle.outline_entry.proofs.place.Tie as tie
 
-enum_told : tie.Need-enum-told
+enum_told : tie.Need-enum_told-1
 enum_told c = search rules
 
-enum-known-best : tie.Need-enum-known-best
+enum-known-best : tie.Need-enum_known-best
 enum-known-best c = search rules
 
-returns : tie.Need-returns
+returns : tie.Need-returns-in-Nothing
 unfolding placed
-returns c = rw c.enum_told.given.1
+returns c = rw c.enum_told-1.given.1
 
-returns-2 : tie.Need-returns-2
+returns-2 : tie.Need-returns-in-At
 unfolding placed
-returns-2 c = rw c.before.best.given.1
+returns-2 c = rw c.before.best-1.given.1
 
-pub place-spec : {M : Type 1} → statement M
-place-spec = tie.close (tie.spec enum_told enum-known-best returns returns-2)
+pub place_spec : {M : Type 1} → statement M
+place_spec = tie.close (tie.spec
+    enum_told
+    enum-known-best
+    returns
+    returns-2)

@@ -7,48 +7,48 @@ use Rattle.rules.specs.Palette.{recoloured}
 use Rattle.outline_entry.proofs.recolour.Statement.{statement}
 use Rattle.outline_entry.proofs.recolour.Tie as tie
 
-mul-palette : tie.Need-overflow-mul-palette
+mul-palette : tie.Need-overflow_mul-palette
 mul-palette c = search rules
 
-mul-palette-2 : tie.Need-overflow-mul-palette-2
+mul-palette-2 : tie.Need-offset_bounds-palette-i
 mul-palette-2 c = search rules
 
-slice-write-palette : tie.Need-slice-write-palette
+slice-write-palette : tie.Need-bounds-palette-i
 slice-write-palette c = search rules
 
-mul-palette-3 : tie.Need-overflow-mul-palette-3
+mul-palette-3 : tie.Need-overflow_mul-palette-2
 mul-palette-3 c = search rules
 
-add-palette : tie.Need-overflow-add-palette
+add-palette : tie.Need-overflow_add-palette
 add-palette c = search rules
 
-mul-palette-4 : tie.Need-overflow-mul-palette-4
+mul-palette-4 : tie.Need-offset_bounds-palette-i-2
 mul-palette-4 c = search rules
 
-slice-write-palette-2 : tie.Need-slice-write-palette-2
+slice-write-palette-2 : tie.Need-bounds-palette-i-2
 slice-write-palette-2 c = simp length-set (omega arith)
 
-mul-palette-5 : tie.Need-overflow-mul-palette-5
+mul-palette-5 : tie.Need-overflow_mul-palette-3
 mul-palette-5 c = search rules
 
-add-palette-2 : tie.Need-overflow-add-palette-2
+add-palette-2 : tie.Need-overflow_add-palette-2
 add-palette-2 c = search rules
 
-mul-palette-6 : tie.Need-overflow-mul-palette-6
+mul-palette-6 : tie.Need-offset_bounds-palette-i-3
 mul-palette-6 c = search rules
 
-slice-write-palette-3 : tie.Need-slice-write-palette-3
+slice-write-palette-3 : tie.Need-bounds-palette-i-3
 slice-write-palette-3 c = search rules
 
-same_length : tie.Need-same-length
+same_length : tie.Need-shape_of-palette
 same_length c = search rules
 
 returns : tie.Need-returns
 unfolding recoloured
 returns c = refl
 
-pub recolour-spec : {M : Type 1} → statement M
-recolour-spec =
+pub recolour_spec : {M : Type 1} → statement M
+recolour_spec =
     tie.close
     (tie.spec
     mul-palette

@@ -5,17 +5,20 @@ use Rattle.rules.specs.Outline.{same_rgb8}
 use Rattle.outline_entry.proofs.same_rgb8.Statement.{statement}
 use Rattle.outline_entry.proofs.same_rgb8.Tie as tie
 
-returns : tie.Need-returns
+returns : tie.Need-returns-then-x-y
 unfolding same_rgb8
-returns c = rw (ne_eqb _ _ c.if1.true)
+returns c = rw (ne_eqb _ _ c.if-x-y.true)
 
-returns-2 : tie.Need-returns-2
+returns-2 : tie.Need-returns-then-x-y-2
 unfolding same_rgb8
-returns-2 c = rw (eq-eqb _ _ c.before.before.before.if1.false, ne_eqb _ _ c.if2.true)
+returns-2 c = rw (eq-eqb _ _ c.before.before.before.if-x-y.false, ne_eqb _ _ c.if-x-y-2.true)
 
-returns-3 : tie.Need-returns-3
+returns-3 : tie.Need-returns
 unfolding same_rgb8
-returns-3 c = rw (eq-eqb _ _ c.before.before.before.before.before.if1.false, eq-eqb _ _ c.before.before.if2.false)
+returns-3 c = rw (eq-eqb _ _ c.before.before.before.before.before.if-x-y.false, eq-eqb _ _ c.before.before.if-x-y-2.false)
 
-pub same-rgb8-spec : {M : Type 1} → statement M
-same-rgb8-spec = tie.close (tie.spec returns returns-2 returns-3)
+pub same_rgb8_spec : {M : Type 1} → statement M
+same_rgb8_spec = tie.close (tie.spec
+    returns
+    returns-2
+    returns-3)

@@ -8,12 +8,14 @@ use Rattle.refusals.proofs.Thirds.{out_of_range_lem}
 use Rattle.refusals.proofs.bad_colour.Statement.{statement}
 use Rattle.refusals.proofs.bad_colour.Tie as tie
 
-all-near-requires : tie.Need-all-near-requires
+all-near-requires : tie.Need-all_near-requires
 all-near-requires c κs = search rules
 
 returns : tie.Need-returns
 unfolding decimal round of_bits
-returns c = ap not c.all_Near.ensures ∙ out_of_range_lem _
+returns c = ap not c.all_near.ensures ∙ out_of_range_lem _
 
-pub bad-colour-spec : {M : Type 1} → statement M
-bad-colour-spec = tie.close (tie.spec all-near-requires returns)
+pub bad_colour_spec : {M : Type 1} → statement M
+bad_colour_spec = tie.close (tie.spec
+    all-near-requires
+    returns)

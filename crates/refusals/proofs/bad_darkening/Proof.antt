@@ -9,32 +9,32 @@ use Rattle.rules.specs.Palette.{between}
 use Rattle.refusals.proofs.bad_darkening.Statement.{statement}
 use Rattle.refusals.proofs.bad_darkening.Tie as tie
 
-enum_told : tie.Need-enum-told
+enum_told : tie.Need-enum_told-1
 enum_told c = search rules
 
-enum-known-outline : tie.Need-enum-known-outline
+enum-known-outline : tie.Need-enum_known-outline
 enum-known-outline c = search rules
 
 between-requires : tie.Need-between-requires
 between-requires c κs = search rules
 
-enum-told-2 : tie.Need-enum-told-2
+enum-told-2 : tie.Need-enum_told-in-Rgb
 enum-told-2 c = search rules
 
-returns : tie.Need-returns
+returns : tie.Need-returns-in-None
 unfolding bad_darkening
-returns c = rw c.enum_told.given.1
+returns c = rw c.enum_told-1.given.1
 
-returns-2 : tie.Need-returns-2
+returns-2 : tie.Need-returns-in-Auto
 unfolding bad_darkening between decimal round of_bits
-returns-2 c = rw c.before.before.outline.given.1 (ap not c.between.ensures)
+returns-2 c = rw c.before.before.outline-1.given.1 (ap not c.between.ensures)
 
-returns-3 : tie.Need-returns-3
+returns-3 : tie.Need-returns-in-Rgb
 unfolding bad_darkening
-returns-3 c = rw c.enum-told2.given.1
+returns-3 c = rw c.enum_told-in-Rgb-1.given.1
 
-pub bad-darkening-spec : {M : Type 1} → statement M
-bad-darkening-spec =
+pub bad_darkening_spec : {M : Type 1} → statement M
+bad_darkening_spec =
     tie.close
     (tie.spec
     enum_told

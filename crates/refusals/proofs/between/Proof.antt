@@ -3,11 +3,13 @@ use mathlib.Core.Path.{refl}
 use Rattle.refusals.proofs.between.Statement.{statement}
 use Rattle.refusals.proofs.between.Tie as tie
 
-returns : tie.Need-returns
-returns c = rw c.if1.true
+returns : tie.Need-returns-then-lo-x
+returns c = rw c.if-lo-x.true
 
-returns-2 : tie.Need-returns-2
-returns-2 c = rw c.if1.false
+returns-2 : tie.Need-returns-else-lo-x
+returns-2 c = rw c.if-lo-x.false
 
-pub between-spec : {M : Type 1} → statement M
-between-spec = tie.close (tie.spec returns returns-2)
+pub between_spec : {M : Type 1} → statement M
+between_spec = tie.close (tie.spec
+    returns
+    returns-2)

@@ -7,15 +7,18 @@ use Rattle.refusals.proofs.Rows.{shorter_list}
 use Rattle.refusals.proofs.grid_refusal.Statement.{statement}
 use Rattle.refusals.proofs.grid_refusal.Tie as tie
 
-lesser-requires : tie.Need-lesser-requires
+lesser-requires : tie.Need-lesser-shorter-requires
 lesser-requires c κs = search rules
 
-sheet-refusal-requires : tie.Need-sheet-refusal-requires
+sheet-refusal-requires : tie.Need-sheet_refusal-requires
 sheet-refusal-requires c κs = search rules
 
 returns : tie.Need-returns
 unfolding needed
-returns c = (rw c.before.lesser.ensures at c.sheet-refusal.ensures) ∙ ap filling (shorter_list _ _ _ _ _)
+returns c = (rw c.before.lesser-shorter.ensures at c.sheet_refusal.ensures) ∙ ap filling (shorter_list _ _ _ _ _)
 
-pub grid-refusal-spec : {M : Type 1} → statement M
-grid-refusal-spec = tie.close (tie.spec lesser-requires sheet-refusal-requires returns)
+pub grid_refusal_spec : {M : Type 1} → statement M
+grid_refusal_spec = tie.close (tie.spec
+    lesser-requires
+    sheet-refusal-requires
+    returns)

@@ -13,5 +13,7 @@ returns : tie.Need-returns
 unfolding between decimal round of_bits
 returns c = c.between.ensures
 
-pub limit-in-range-spec : {M : Type 1} → statement M
-limit-in-range-spec = tie.close (tie.spec between-requires returns)
+pub limit_in_range_spec : {M : Type 1} → statement M
+limit_in_range_spec = tie.close (tie.spec
+    between-requires
+    returns)

@@ -12,46 +12,52 @@ use Rattle.refusals.proofs.Rows.{good_palette}
 use Rattle.refusals.proofs.palette_refusal.Statement.{statement}
 use Rattle.refusals.proofs.palette_refusal.Tie as tie
 
-abbrev begun : tie.After-bad-palette → tie.Start
+abbrev begun : tie.After-bad_palette → tie.Start
 begun c = c.before.before
 
 abbrev palette : tie.Start → Palette
 palette s = palette_of s.args.palette.now s.args.k
 
-bad-palette-requires : tie.Need-bad-palette-requires
+bad-palette-requires : tie.Need-bad_palette-requires
 bad-palette-requires c κs = search rules
 
-returns : tie.Need-returns
+returns : tie.Need-returns-then-bad_palette
 unfolding bad_palette
-returns c = some_filling (row_hit (bad_palette (palette (begun c.before))) _ (sym c.before.bad-palette.ensures ∙ c.if1.true))
+returns c = some_filling (row_hit (bad_palette (palette (begun c.before))) _ (sym c.before.bad_palette.ensures ∙ c.if-bad_palette.true))
 
 -- row 4 does not apply
-not_4 : (c : tie.Else1) → (bad_palette (palette (begun c.before))).applies ≡ false
-not_4 c = sym c.before.bad-palette.ensures ∙ c.if1.false
+not_4 : (c : tie.Else-bad_palette) → (bad_palette (palette (begun c.before))).applies ≡ false
+not_4 c = sym c.before.bad_palette.ensures ∙ c.if-bad_palette.false
 
-bad-colour-requires : tie.Need-bad-colour-requires
+bad-colour-requires : tie.Need-bad_colour-requires
 bad-colour-requires c κs = let g = good_palette (palette (begun c.before)) (not_4 c) in (omega (arith, g.0, g.1), g.0)
 
-returns-2 : tie.Need-returns-2
+returns-2 : tie.Need-returns-then-bad_colour
 unfolding bad_colour
 returns-2 c =
     let p = palette (begun c.before.before.before) in
-    some_filling (row-pass (bad_palette p) _ (not_4 c.before.before) ∙ row_hit (bad_colour p) _ (sym c.before.bad-colour.ensures ∙ c.if2.true))
+    some_filling (row-pass (bad_palette p) _ (not_4 c.before.before) ∙ row_hit (bad_colour p) _ (sym c.before.bad_colour.ensures ∙ c.if-bad_colour.true))
 
 -- rows 4 and 5 are passed over
-past_5 : (c : tie.Else2) → let s = begun c.before.before.before in refusal (palette_rows (palette s) s.args.bad) ≡ refusal (bad_setting s.args.bad ∷ [])
+past_5 : (c : tie.Else-bad_colour) → let s = begun c.before.before.before in refusal (palette_rows (palette s) s.args.bad) ≡ refusal (bad_setting s.args.bad ∷ [])
 unfolding bad_colour
 past_5 c =
     let p = palette (begun c.before.before.before) in
-    row-pass (bad_palette p) _ (not_4 c.before.before) ∙ row-pass (bad_colour p) _ (sym c.before.bad-colour.ensures ∙ c.if2.false)
+    row-pass (bad_palette p) _ (not_4 c.before.before) ∙ row-pass (bad_colour p) _ (sym c.before.bad_colour.ensures ∙ c.if-bad_colour.false)
 
-returns-3 : tie.Need-returns-3
+returns-3 : tie.Need-returns-then-bad
 unfolding bad_setting
-returns-3 c = some_filling (past_5 c.before ∙ row_hit (bad_setting _) [] c.if3.true)
+returns-3 c = some_filling (past_5 c.before ∙ row_hit (bad_setting _) [] c.if-bad.true)
 
-returns-4 : tie.Need-returns-4
+returns-4 : tie.Need-returns
 unfolding bad_setting
-returns-4 c = none_filling (past_5 c.before ∙ row_last (bad_setting _) c.if3.false)
+returns-4 c = none_filling (past_5 c.before ∙ row_last (bad_setting _) c.if-bad.false)
 
-pub palette-refusal-spec : {M : Type 1} → statement M
-palette-refusal-spec = tie.close (tie.spec bad-palette-requires returns bad-colour-requires returns-2 returns-3 returns-4)
+pub palette_refusal_spec : {M : Type 1} → statement M
+palette_refusal_spec = tie.close (tie.spec
+    bad-palette-requires
+    returns
+    bad-colour-requires
+    returns-2
+    returns-3
+    returns-4)

@@ -5,13 +5,15 @@ use Rattle.rules.specs.Rows.{too_large}
 use Rattle.refusals.proofs.too_large.Statement.{statement}
 use Rattle.refusals.proofs.too_large.Tie as tie
 
-returns : tie.Need-returns
+returns : tie.Need-returns-then-h-gt512
 unfolding too_large
-returns c = rw (lt-ltb _ _ c.if1.true)
+returns c = rw (lt-ltb _ _ c.if-h-gt512.true)
 
-returns-2 : tie.Need-returns-2
+returns-2 : tie.Need-returns-else-h-gt512
 unfolding too_large
-returns-2 c = rw (le-ltb _ _ c.if1.false)
+returns-2 c = rw (le-ltb _ _ c.if-h-gt512.false)
 
-pub too-large-spec : {M : Type 1} → statement M
-too-large-spec = tie.close (tie.spec returns returns-2)
+pub too_large_spec : {M : Type 1} → statement M
+too_large_spec = tie.close (tie.spec
+    returns
+    returns-2)

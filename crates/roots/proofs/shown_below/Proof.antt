@@ -11,44 +11,44 @@ use Rattle.roots.proofs.shown_below.Statement.{statement}
 use Rattle.roots.proofs.shown_below.Tie as tie
 
 -- the digits are taken as they are, or no more than 3 of them
-shift : (c : tie.Joined3) → (c.if3.j ≤ 3) × (c.if3.j + (c.before.before.before.args.x / 2 ^ 52 + 1021) ≤ field ((c.before.before.before.args.y - 1) / 2 ^ 27) * 2)
-shift c = ⊎_elim (λ w. (omega (arith, w.1), omega (arith, w.1, w.0.taken, c.before.if2.false))) (λ w. (omega (arith, w.1, w.0.left), omega (arith, w.1, c.before.if2.false))) c.if3.branch
+shift : (c : tie.Joined-j-gt3) → (c.if-j-gt3.j ≤ 3) × (c.if-j-gt3.j + (c.before.before.before.args.x / 2 ^ 52 + 1021) ≤ field ((c.before.before.before.args.y - 1) / 2 ^ 27) * 2)
+shift c = ⊎_elim (λ w. (omega (arith, w.1), omega (arith, w.1, w.0.taken, c.before.if-d-e.false))) (λ w. (omega (arith, w.1, w.0.left), omega (arith, w.1, c.before.if-d-e.false))) c.if-j-gt3.branch-raw
 
-returns : tie.Need-returns
+returns : tie.Need-returns-then-y-eq0
 returns c e = absurd (true≢false (sym e))
 
-returns-2 : tie.Need-returns-2
+returns-2 : tie.Need-returns-then-d-e
 returns-2 c e = absurd (true≢false (sym e))
 
-returns-3 : tie.Need-returns-3
+returns-3 : tie.Need-returns
 returns-3 c e =
     let s = shift c.before in
     let a = c.before.before.before.before in
-    shown a.args.x a.args.y c.before.if3.j (omega (arith, c.before.before.before.if1.false)) s.0 s.1 (leb→le _ _ (subst T (sym e) tt))
+    shown a.args.x a.args.y c.before.if-j-gt3.j (omega (arith, c.before.before.before.if-y-eq0.false)) s.0 s.1 (leb→le _ _ (subst T (sym e) tt))
 
-sub-top : tie.Need-overflow-sub-top
-sub-top c = omega (arith, c.if1.false)
+sub-top : tie.Need-overflow_sub-top
+sub-top c = omega (arith, c.if-y-eq0.false)
 
-add-h : tie.Need-overflow-add-h
+add-h : tie.Need-overflow_add-h
 add-h c = search rules
 
-mul-d : tie.Need-overflow-mul-d
+mul-d : tie.Need-overflow_mul-d
 mul-d c = search rules
 
-add-e : tie.Need-overflow-add-e
+add-e : tie.Need-overflow_add-e
 add-e c = search rules
 
-add-result : tie.Need-overflow-add-result
+add-result : tie.Need-overflow_add-result
 add-result c = search rules
 
-mul-result : tie.Need-overflow-mul-result
-mul-result c = let a = c.before.before.before.args in omega (arith, square_fits a.x a.y c.if3.j (omega (arith, c.before.before.if1.false)))
+mul-result : tie.Need-overflow_mul-result
+mul-result c = let a = c.before.before.before.args in omega (arith, square_fits a.x a.y c.if-j-gt3.j (omega (arith, c.before.before.if-y-eq0.false)))
 
-shl-result : tie.Need-overflow-shl-result
+shl-result : tie.Need-overflow_shl-result
 shl-result c = omega (arith, (shift c.before).0)
 
-pub shown-below-spec : {M : Type 1} → statement M
-shown-below-spec =
+pub shown_below_spec : {M : Type 1} → statement M
+shown_below_spec =
     tie.close
     (tie.spec
     returns

@@ -17,40 +17,40 @@ use Rattle.roots.proofs.sqrt_below.Tie as tie
 double : (x : Float) → T (fits binary64 x) → to_bits binary64 x < limit → Double x
 double x f l = record { held = f; sign = small_sign x f l }
 
-returns : tie.Need-returns
-returns c = root_of_nan c.before.args.x c.before.args.y (is_nan_lem c.before.args.x c.if1.true)
+returns : tie.Need-returns-then-x
+returns c = root_of_nan c.before.args.x c.before.args.y (is_nan_lem c.before.args.x c.if-x.true)
 
-returns-2 : tie.Need-returns-2
-returns-2 c = let s = c.before.before in below_nan (sqrt_of s.args.x) s.args.y (is_nan_lem s.args.y c.if2.true)
+returns-2 : tie.Need-returns-then-y
+returns-2 c = let s = c.before.before in below_nan (sqrt_of s.args.x) s.args.y (is_nan_lem s.args.y c.if-y.true)
 
-returns-3 : tie.Need-returns-3
+returns-3 : tie.Need-returns-then-shown_below
 returns-3 c =
     let p = c.before.before in
     let s = p.before.before.before.before in
     let x = s.args.x in
     let y = s.args.y in
-    let dx = double x (subst T (sym s.well-formed.0.1) tt) p.before.if3.true in
-    let dy = double y (subst T (sym s.well-formed.1.0.1) tt) (ltb→lt (to_bits binary64 y) limit (subst T (sym p.if4.true) tt)) in
-    let z = c.before.shown-below.ensures c.if5.true in
+    let dx = double x (subst T (sym s.well-formed.0.1) tt) p.before.if-p-lt-LIMIT.true in
+    let dy = double y (subst T (sym s.well-formed.1.0.1) tt) (ltb→lt (to_bits binary64 y) limit (subst T (sym p.if-q-lt-LIMIT.true) tt)) in
+    let z = c.before.shown_below.ensures c.if-shown_below.true in
     sym (is_true (lt (sqrt_of x) y) (root_below x y (sqrt_of x) dx dy (sqrt_nearest x dx) z.0 z.1 z.2))
 
-returns-4 : tie.Need-returns-4
+returns-4 : tie.Need-returns
 returns-4 c = ap (λ (r : Float). lt r c.before.before.before.before.args.y) c.sqrt.ensures.equal
 
-float-to-bits-p : tie.Need-float-to-bits-p
-float-to-bits-p c = not_nan _ c.before.if1.false
+float-to-bits-p : tie.Need-float_to_bits-p
+float-to-bits-p c = not_nan _ c.before.if-x.false
 
-float-to-bits-q : tie.Need-float-to-bits-q
-float-to-bits-q c = not_nan _ c.if2.false
+float-to-bits-q : tie.Need-float_to_bits-q
+float-to-bits-q c = not_nan _ c.if-y.false
 
-shown-below-requires : tie.Need-shown-below-requires
+shown-below-requires : tie.Need-shown_below-requires
 shown-below-requires c κs = search rules
 
 sqrt-requires : tie.Need-sqrt-requires
 sqrt-requires c κs = search rules
 
-pub sqrt-below-spec : {M : Type 1} → statement M
-sqrt-below-spec =
+pub sqrt_below_spec : {M : Type 1} → statement M
+sqrt_below_spec =
     tie.close
     (tie.spec
     returns

@@ -7,14 +7,16 @@ use Rattle.rules.specs.Run.{pad_allowed}
 use Rattle.run_refusals.proofs.drawing.Statement.{statement}
 use Rattle.run_refusals.proofs.drawing.Tie as tie
 
-pad-allowed-requires : tie.Need-pad-allowed-requires
+pad-allowed-requires : tie.Need-pad_allowed-allow_pad-requires
 pad-allowed-requires c κs = search rules
 
 returns : tie.Need-returns
 returns c =
     let s = c.before in
     ap (λ (b : Bool). record { outline = s.args.config.outline; allow_pad = b; fixed_palette = s.args.fixed-palette })
-    (c.pad-allowed.ensures ∙ ap (pad_allowed s.args.config) (to_z-of_z s.ranges.outline-margin))
+    (c.pad_allowed-allow_pad.ensures ∙ ap (pad_allowed s.args.config) (to_z-of_z s.ranges.outline-margin))
 
-pub drawing-spec : {M : Type 1} → statement M
-drawing-spec = tie.close (tie.spec pad-allowed-requires returns)
+pub drawing_spec : {M : Type 1} → statement M
+drawing_spec = tie.close (tie.spec
+    pad-allowed-requires
+    returns)

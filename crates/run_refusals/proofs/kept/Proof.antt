@@ -2,11 +2,13 @@
 use Rattle.run_refusals.proofs.kept.Statement.{statement}
 use Rattle.run_refusals.proofs.kept.Tie as tie
 
-returns : tie.Need-returns
-returns c = rw c.if1.true
+returns : tie.Need-returns-then-saturated
+returns c = rw c.if-saturated.true
 
-returns-2 : tie.Need-returns-2
-returns-2 c = rw c.if1.false
+returns-2 : tie.Need-returns-else-saturated
+returns-2 c = rw c.if-saturated.false
 
-pub kept-spec : {M : Type 1} → statement M
-kept-spec = tie.close (tie.spec returns returns-2)
+pub kept_spec : {M : Type 1} → statement M
+kept_spec = tie.close (tie.spec
+    returns
+    returns-2)

@@ -9,5 +9,6 @@ use Rattle.run_refusals.proofs.limits.Tie as tie
 returns : tie.Need-returns
 returns c = ap (le_z (pos 2)) (to_z-of_z c.ranges.min-region)
 
-pub limits-spec : {M : Type 1} → statement M
-limits-spec = tie.close (tie.spec returns)
+pub limits_spec : {M : Type 1} → statement M
+limits_spec = tie.close (tie.spec
+    returns)

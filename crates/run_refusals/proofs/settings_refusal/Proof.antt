@@ -16,75 +16,75 @@ use borrow.Author.Rules.{rules}
 use Rattle.run_refusals.proofs.settings_refusal.Statement.{statement}
 use Rattle.run_refusals.proofs.settings_refusal.Tie as tie
 
-abbrev start : tie.After-palette-refusal → tie.Start
+abbrev start : tie.After-palette_refusal → tie.Start
 start c = c.before.before.before
 
-abbrev palette : tie.After-palette-refusal → Palette
+abbrev palette : tie.After-palette_refusal → Palette
 palette c = let s = (start c).args in palette_of s.palette.now s.k
 
 -- rows 4 to 6 by the settings' ranges
-judged : (c : tie.After-palette-refusal) → c.palette-refusal.result ≡ filling (refusal (palette_rows (palette c) (bad_ranges (start c).args.config)))
-judged c = c.palette-refusal.ensures ∙ ap (λ (b : Bool). filling (refusal (palette_rows (palette c) b))) c.before.bad-ranges.ensures
+judged : (c : tie.After-palette_refusal) → c.palette_refusal.result ≡ filling (refusal (palette_rows (palette c) (bad_ranges (start c).args.config)))
+judged c = c.palette_refusal.ensures ∙ ap (λ (b : Bool). filling (refusal (palette_rows (palette c) b))) c.before.bad_ranges.ensures
 
-abbrev entered : tie.After-enum-told → tie.After-palette-refusal
+abbrev entered : tie.In_default → tie.After-palette_refusal
 entered c = c.before.before
 
-passed_over : (c : tie.After-enum-told) → refusal (palette_rows (palette (entered c)) (bad_ranges (start (entered c)).args.config)) ≡ none
-passed_over c = filling_none (judged (entered c)) c.enum_told.given.1
+passed_over : (c : tie.In_default) → refusal (palette_rows (palette (entered c)) (bad_ranges (start (entered c)).args.config)) ≡ none
+passed_over c = filling_none (judged (entered c)) c.enum_told-1.given.1
 
-usable : (c : tie.After-enum-told) → Usable (palette (entered c)) (bad_ranges (start (entered c)).args.config)
+usable : (c : tie.In_default) → Usable (palette (entered c)) (bad_ranges (start (entered c)).args.config)
 usable c = (palette_room _ (passed_over c)).0
 
-returns : tie.Need-returns
+returns : tie.Need-returns-in-Refused
 returns c =
     let r = c.before.before.before in
     let s = (start r).args in
-    some_filling (in_two s.config s.kept (palette r) ∙ rows_hit _ _ (filling_some (judged r) c.before.n.given.1))
+    some_filling (in_two s.config s.kept (palette r) ∙ rows_hit _ _ (filling_some (judged r) c.before.n-1.given.1))
 
-returns-2 : tie.Need-returns-2
+returns-2 : tie.Need-returns-then-kept
 returns-2 c =
     let e = c.before in
     let r = entered e in
     let s = (start r).args in
     none_filling (in_two s.config s.kept (palette r) ∙ rows_pass _ _ (passed_over e)
-    ∙ row_last _ (ap out_of_range (kept_tones s.config s.kept (palette r) c.if1.true) ∙ (usable e).ranged))
+    ∙ row_last _ (ap out_of_range (kept_tones s.config s.kept (palette r) c.if-kept.true) ∙ (usable e).ranged))
 
 -- the doubles that saturation leaves
-scaled : (c : tie.After-scaled-too-far) → let s = (start (entered c.before.before)).args in out_of_range (toned s.kept s.config (palette (entered c.before.before))) ≡ c.scaled-too-far.result
+scaled : (c : tie.After-scaled_too_far) → let s = (start (entered c.before.before)).args in out_of_range (toned s.kept s.config (palette (entered c.before.before))) ≡ c.scaled_too_far.result
 scaled c =
     let r = entered c.before.before in
     let s = (start r).args in
-    ap out_of_range (new_tones s.config s.kept (palette r) c.before.if1.false) ∙ sym c.scaled-too-far.ensures
+    ap out_of_range (new_tones s.config s.kept (palette r) c.before.if-kept.false) ∙ sym c.scaled_too_far.ensures
 
-returns-3 : tie.Need-returns-3
+returns-3 : tie.Need-returns-then-scaled_too_far
 returns-3 c =
     let e = c.before.before.before in
     let s = (start (entered e)).args in
-    some_filling (in_two s.config s.kept (palette (entered e)) ∙ rows_pass _ _ (passed_over e) ∙ row_hit _ _ (scaled c.before ∙ c.if2.true))
+    some_filling (in_two s.config s.kept (palette (entered e)) ∙ rows_pass _ _ (passed_over e) ∙ row_hit _ _ (scaled c.before ∙ c.if-scaled_too_far.true))
 
-returns-4 : tie.Need-returns-4
+returns-4 : tie.Need-returns
 returns-4 c =
     let e = c.before.before.before in
     let s = (start (entered e)).args in
-    none_filling (in_two s.config s.kept (palette (entered e)) ∙ rows_pass _ _ (passed_over e) ∙ row_last _ (scaled c.before ∙ c.if2.false))
+    none_filling (in_two s.config s.kept (palette (entered e)) ∙ rows_pass _ _ (passed_over e) ∙ row_last _ (scaled c.before ∙ c.if-scaled_too_far.false))
 
-bad-ranges-requires : tie.Need-bad-ranges-requires
+bad-ranges-requires : tie.Need-bad_ranges-requires
 bad-ranges-requires c κs = search rules
 
-palette-refusal-requires : tie.Need-palette-refusal-requires
+palette-refusal-requires : tie.Need-palette_refusal-requires
 palette-refusal-requires c κs = search rules
 
-enum-known-n : tie.Need-enum-known-n
+enum-known-n : tie.Need-enum_known-n
 enum-known-n c = search rules
 
-enum_told : tie.Need-enum-told
+enum_told : tie.Need-enum_told-1
 enum_told c = search rules
 
-scaled-too-far-requires : tie.Need-scaled-too-far-requires
+scaled-too-far-requires : tie.Need-scaled_too_far-requires
 scaled-too-far-requires c κs = let u = usable c.before in (omega (arith, u.few, u.whole), u.few, u.ranged)
 
-pub settings-refusal-spec : {M : Type 1} → statement M
-settings-refusal-spec =
+pub settings_refusal_spec : {M : Type 1} → statement M
+settings_refusal_spec =
     tie.close
     (tie.spec
     bad-ranges-requires

@@ -5,20 +5,24 @@ use borrow.Author.Rules.{rules}
 use Rattle.silk_c.proofs.config_of.Statement.{statement}
 use Rattle.silk_c.proofs.config_of.Tie as tie
 
-is-set-requires : tie.Need-is-set-requires
+is-set-requires : tie.Need-is_set-requires
 is-set-requires c κs = search rules
 
-is-set-requires-2 : tie.Need-is-set-requires-2
+is-set-requires-2 : tie.Need-is_set-requires-2
 is-set-requires-2 c κs = search rules
 
-is-set-requires-3 : tie.Need-is-set-requires-3
+is-set-requires-3 : tie.Need-is_set-requires-3
 is-set-requires-3 c κs = search rules
 
 returns : tie.Need-returns
 unfolding config_of
 returns c =
     let i = c.before.before in
-    rw (i.is_set.ensures, c.before.is-set2.ensures, c.is-set3.ensures, to_z-of_z i.before.ranges.orphan-min-region)
+    rw (i.is_set.ensures, c.before.is_set-2.ensures, c.is_set-3.ensures, to_z-of_z i.before.ranges.orphan-min-region)
 
-pub config-of-spec : {M : Type 1} → statement M
-config-of-spec = tie.close (tie.spec is-set-requires is-set-requires-2 is-set-requires-3 returns)
+pub config_of_spec : {M : Type 1} → statement M
+config_of_spec = tie.close (tie.spec
+    is-set-requires
+    is-set-requires-2
+    is-set-requires-3
+    returns)

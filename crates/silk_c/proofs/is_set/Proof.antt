@@ -8,5 +8,6 @@ returns : tie.Need-returns
 unfolding is_set
 returns c = refl
 
-pub is-set-spec : {M : Type 1} → statement M
-is-set-spec = tie.close (tie.spec returns)
+pub is_set_spec : {M : Type 1} → statement M
+is_set_spec = tie.close (tie.spec
+    returns)

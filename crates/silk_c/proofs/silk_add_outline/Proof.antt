@@ -6,64 +6,64 @@ use borrow.Author.Rules.{rules}
 use Rattle.silk_c.proofs.silk_add_outline.Statement.{statement}
 use Rattle.silk_c.proofs.silk_add_outline.Tie as tie
 
-facts-rows-requires : tie.Need-facts-rows-requires
+facts-rows-requires : tie.Need-facts_rows-requires
 facts-rows-requires c κs = search rules
 
-enum-known-n : tie.Need-enum-known-n
+enum-known-n : tie.Need-enum_known-n
 enum-known-n c = search rules
 
-cast-result : tie.Need-overflow-cast-result
+cast-result : tie.Need-overflow_cast-result
 cast-result c = search rules
 
-returns : tie.Need-returns
+returns : tie.Need-returns-in-Refused
 unfolding after_facts_rows
-returns c = turned_two _ c.before.before.before.facts-rows.ensures c.before.n.given.1 _ _ _ _ _ _
+returns c = turned_two _ c.before.before.before.facts_rows.ensures c.before.n-1.given.1 _ _ _ _ _ _
 
-enum_told : tie.Need-enum-told
+enum_told : tie.Need-enum_told-1
 enum_told c = search rules
 
-outline-of-requires : tie.Need-outline-of-requires
+outline-of-requires : tie.Need-outline_of-outline-requires
 outline-of-requires c κs = search rules
 
-is-set-requires : tie.Need-is-set-requires
+is-set-requires : tie.Need-is_set-pad-requires
 is-set-requires c κs = search rules
 
-is-set-requires-2 : tie.Need-is-set-requires-2
+is-set-requires-2 : tie.Need-is_set-fixed-requires
 is-set-requires-2 c κs = search rules
 
-add-outline-requires : tie.Need-add-outline-requires
+add-outline-requires : tie.Need-add_outline-answer-requires
 add-outline-requires c κs = search rules
 
-tell-outline-requires : tie.Need-tell-outline-requires
+tell-outline-requires : tie.Need-tell_outline-requires
 tell-outline-requires c κs =
     let l = c.before.before.before.before.before.before in
     let u = l.before.before.before.before.before.before.before in
-    (drawn-small _ l.add-outline.ensures.0, roomy _ _ _ _ u.before.before.facts-rows.ensures u.enum_told.given.1)
+    (drawn-small _ l.add_outline-answer.ensures.0, roomy _ _ _ _ u.before.before.facts_rows.ensures u.enum_told-1.given.1)
 
-same_length : tie.Need-same-length
+same_length : tie.Need-shape_of-cells
 same_length c = search rules
 
-same-length-2 : tie.Need-same-length-2
+same-length-2 : tie.Need-shape_of-palette
 same-length-2 c = search rules
 
-same-length-3 : tie.Need-same-length-3
+same-length-3 : tie.Need-shape_of-work
 same-length-3 c = search rules
 
-same-length-4 : tie.Need-same-length-4
+same-length-4 : tie.Need-shape_of-facts
 same-length-4 c = search rules
 
-returns-2 : tie.Need-returns-2
+returns-2 : tie.Need-returns
 unfolding after_facts_rows
 returns-2 c =
     let t = c.before.before in
     let l = t.before.before.before.before.before.before.before in
     let i = l.before.before.before.before in
     let u = i.before.before.before in
-    let r = rw (i.before.before.outline-of.ensures, i.before.is_set.ensures, i.is-set2.ensures) at l.add-outline.ensures in
-    heard_two _ u.before.before.facts-rows.ensures u.enum_told.given.1 outlined _ t.tell-outline.ensures _ _ r
+    let r = rw (i.before.before.outline_of-outline.ensures, i.before.is_set-pad.ensures, i.is_set-fixed.ensures) at l.add_outline-answer.ensures in
+    heard_two _ u.before.before.facts_rows.ensures u.enum_told-1.given.1 outlined _ t.tell_outline.ensures _ _ r
 
-pub silk-add-outline-spec : {M : Type 1} → statement M
-silk-add-outline-spec =
+pub silk_add_outline_spec : {M : Type 1} → statement M
+silk_add_outline_spec =
     tie.close
     (tie.spec
     facts-rows-requires

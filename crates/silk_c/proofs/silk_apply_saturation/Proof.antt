@@ -5,18 +5,22 @@ use borrow.Author.Rules.{rules}
 use Rattle.silk_c.proofs.silk_apply_saturation.Statement.{statement}
 use Rattle.silk_c.proofs.silk_apply_saturation.Tie as tie
 
-apply-saturation-requires : tie.Need-apply-saturation-requires
+apply-saturation-requires : tie.Need-apply_saturation-requires
 apply-saturation-requires c κs = search rules
 
 number-requires : tie.Need-number-requires
 number-requires c κs = search rules
 
-same_length : tie.Need-same-length
+same_length : tie.Need-shape_of-palette
 same_length c = search rules
 
 returns : tie.Need-returns
-returns c = (numbered done c.number.ensures c.before.before.before.apply-saturation.ensures.0, c.before.before.before.apply-saturation.ensures.1)
+returns c = (numbered done c.number.ensures c.before.before.before.apply_saturation.ensures.0, c.before.before.before.apply_saturation.ensures.1)
 
-pub silk-apply-saturation-spec : {M : Type 1} → statement M
-silk-apply-saturation-spec =
-    tie.close (tie.spec apply-saturation-requires number-requires same_length returns)
+pub silk_apply_saturation_spec : {M : Type 1} → statement M
+silk_apply_saturation_spec =
+    tie.close (tie.spec
+    apply-saturation-requires
+    number-requires
+    same_length
+    returns)

@@ -5,17 +5,21 @@ use borrow.Author.Rules.{rules}
 use Rattle.silk_c.proofs.silk_delta_e.Statement.{statement}
 use Rattle.silk_c.proofs.silk_delta_e.Tie as tie
 
-delta-e-requires : tie.Need-delta-e-requires
+delta-e-requires : tie.Need-delta_e-requires
 delta-e-requires c κs = search rules
 
 number-requires : tie.Need-number-requires
 number-requires c κs = search rules
 
-same_length : tie.Need-same-length
+same_length : tie.Need-shape_of-out
 same_length c = search rules
 
 returns : tie.Need-returns
-returns c = (numbered done c.number.ensures c.before.before.before.delta-e.ensures.0, c.before.before.before.delta-e.ensures.1)
+returns c = (numbered done c.number.ensures c.before.before.before.delta_e.ensures.0, c.before.before.before.delta_e.ensures.1)
 
-pub silk-delta-e-spec : {M : Type 1} → statement M
-silk-delta-e-spec = tie.close (tie.spec delta-e-requires number-requires same_length returns)
+pub silk_delta_e_spec : {M : Type 1} → statement M
+silk_delta_e_spec = tie.close (tie.spec
+    delta-e-requires
+    number-requires
+    same_length
+    returns)

@@ -9,25 +9,30 @@ use borrow.Author.Rules.{rules}
 use Rattle.silk_c.proofs.silk_hex_to_rgb8.Statement.{statement}
 use Rattle.silk_c.proofs.silk_hex_to_rgb8.Tie as tie
 
-returns : tie.Need-returns
-returns c = turned _ (row_hit (row 2 _) [] (lt-ltb _ _ c.if1.true)) _ _
+returns : tie.Need-returns-then-out-lt3
+returns c = turned _ (row_hit (row 2 _) [] (lt-ltb _ _ c.if-out-lt3.true)) _ _
 
-hex-to-rgb8-requires : tie.Need-hex-to-rgb8-requires
+hex-to-rgb8-requires : tie.Need-hex_to_rgb8-answer-requires
 hex-to-rgb8-requires c κs = search rules
 
-tell-colour-requires : tie.Need-tell-colour-requires
+tell-colour-requires : tie.Need-tell_colour-requires
 tell-colour-requires c κs = search rules
 
-same_length : tie.Need-same-length
+same_length : tie.Need-shape_of-out
 same_length c = search rules
 
-returns-2 : tie.Need-returns-2
+returns-2 : tie.Need-returns
 unfolding refusal
 returns-2 c =
     let t = c.before.before in
     let x = t.before.before in
-    answered _ (row-pass (row 2 _) [] (le-ltb _ _ x.before.if1.false)) coloured _ t.tell-colour.ensures x.hex-to-rgb8.ensures
+    answered _ (row-pass (row 2 _) [] (le-ltb _ _ x.before.if-out-lt3.false)) coloured _ t.tell_colour.ensures x.hex_to_rgb8-answer.ensures
 
-pub silk-hex-to-rgb8-spec : {M : Type 1} → statement M
-silk-hex-to-rgb8-spec =
-    tie.close (tie.spec returns hex-to-rgb8-requires tell-colour-requires same_length returns-2)
+pub silk_hex_to_rgb8_spec : {M : Type 1} → statement M
+silk_hex_to_rgb8_spec =
+    tie.close (tie.spec
+    returns
+    hex-to-rgb8-requires
+    tell-colour-requires
+    same_length
+    returns-2)

@@ -5,49 +5,49 @@ use borrow.Author.Rules.{rules}
 use Rattle.silk_c.proofs.silk_label4.Statement.{statement}
 use Rattle.silk_c.proofs.silk_label4.Tie as tie
 
-facts-rows-requires : tie.Need-facts-rows-requires
+facts-rows-requires : tie.Need-facts_rows-requires
 facts-rows-requires c κs = search rules
 
-enum-known-n : tie.Need-enum-known-n
+enum-known-n : tie.Need-enum_known-n
 enum-known-n c = search rules
 
-cast-result : tie.Need-overflow-cast-result
+cast-result : tie.Need-overflow_cast-result
 cast-result c = search rules
 
-returns : tie.Need-returns
+returns : tie.Need-returns-in-Refused
 unfolding after_facts_rows
-returns c = turned_one _ c.before.before.before.facts-rows.ensures c.before.n.given.1 _ _ _ _
+returns c = turned_one _ c.before.before.before.facts_rows.ensures c.before.n-1.given.1 _ _ _ _
 
-enum_told : tie.Need-enum-told
+enum_told : tie.Need-enum_told-1
 enum_told c = search rules
 
-label4-requires : tie.Need-label4-requires
+label4-requires : tie.Need-label4-answer-requires
 label4-requires c κs = search rules
 
-tell-regions-requires : tie.Need-tell-regions-requires
+tell-regions-requires : tie.Need-tell_regions-requires
 tell-regions-requires c κs =
     let u = c.before.before.before.before.before.before.before.before in
-    roomy _ _ _ _ u.before.before.facts-rows.ensures u.enum_told.given.1
+    roomy _ _ _ _ u.before.before.facts_rows.ensures u.enum_told-1.given.1
 
-same_length : tie.Need-same-length
+same_length : tie.Need-shape_of-labels
 same_length c = search rules
 
-same-length-2 : tie.Need-same-length-2
+same-length-2 : tie.Need-shape_of-work
 same-length-2 c = search rules
 
-same-length-3 : tie.Need-same-length-3
+same-length-3 : tie.Need-shape_of-facts
 same-length-3 c = search rules
 
-returns-2 : tie.Need-returns-2
+returns-2 : tie.Need-returns
 unfolding after_facts_rows
 returns-2 c =
     let t = c.before.before in
     let l = t.before.before.before.before.before.before in
     let u = l.before.before.before in
-    heard_one _ u.before.before.facts-rows.ensures u.enum_told.given.1 labelled _ t.tell-regions.ensures _ l.label4.ensures
+    heard_one _ u.before.before.facts_rows.ensures u.enum_told-1.given.1 labelled _ t.tell_regions.ensures _ l.label4-answer.ensures
 
-pub silk-label4-spec : {M : Type 1} → statement M
-silk-label4-spec =
+pub silk_label4_spec : {M : Type 1} → statement M
+silk_label4_spec =
     tie.close
     (tie.spec
     facts-rows-requires

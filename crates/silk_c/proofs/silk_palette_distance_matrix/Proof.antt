@@ -5,18 +5,22 @@ use borrow.Author.Rules.{rules}
 use Rattle.silk_c.proofs.silk_palette_distance_matrix.Statement.{statement}
 use Rattle.silk_c.proofs.silk_palette_distance_matrix.Tie as tie
 
-palette-distance-matrix-requires : tie.Need-palette-distance-matrix-requires
+palette-distance-matrix-requires : tie.Need-palette_distance_matrix-requires
 palette-distance-matrix-requires c κs = search rules
 
 number-requires : tie.Need-number-requires
 number-requires c κs = search rules
 
-same_length : tie.Need-same-length
+same_length : tie.Need-shape_of-out
 same_length c = search rules
 
 returns : tie.Need-returns
-returns c = (numbered done c.number.ensures c.before.before.before.palette-distance-matrix.ensures.0, c.before.before.before.palette-distance-matrix.ensures.1)
+returns c = (numbered done c.number.ensures c.before.before.before.palette_distance_matrix.ensures.0, c.before.before.before.palette_distance_matrix.ensures.1)
 
-pub silk-palette-distance-matrix-spec : {M : Type 1} → statement M
-silk-palette-distance-matrix-spec =
-    tie.close (tie.spec palette-distance-matrix-requires number-requires same_length returns)
+pub silk_palette_distance_matrix_spec : {M : Type 1} → statement M
+silk_palette_distance_matrix_spec =
+    tie.close (tie.spec
+    palette-distance-matrix-requires
+    number-requires
+    same_length
+    returns)

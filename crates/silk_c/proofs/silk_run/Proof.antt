@@ -7,59 +7,59 @@ use borrow.Author.Rules.{rules}
 use Rattle.silk_c.proofs.silk_run.Statement.{statement}
 use Rattle.silk_c.proofs.silk_run.Tie as tie
 
-facts-rows-requires : tie.Need-facts-rows-requires
+facts-rows-requires : tie.Need-facts_rows-requires
 facts-rows-requires c κs = search rules
 
-enum-known-n : tie.Need-enum-known-n
+enum-known-n : tie.Need-enum_known-n
 enum-known-n c = search rules
 
-cast-result : tie.Need-overflow-cast-result
+cast-result : tie.Need-overflow_cast-result
 cast-result c = search rules
 
-returns : tie.Need-returns
+returns : tie.Need-returns-in-Refused
 unfolding after_facts_rows
-returns c = turned_two _ c.before.before.before.facts-rows.ensures c.before.n.given.1 _ _ _ _ _ _
+returns c = turned_two _ c.before.before.before.facts_rows.ensures c.before.n-1.given.1 _ _ _ _ _ _
 
-enum_told : tie.Need-enum-told
+enum_told : tie.Need-enum_told-1
 enum_told c = search rules
 
-beta-of-requires : tie.Need-beta-of-requires
+beta-of-requires : tie.Need-beta_of-tone-requires
 beta-of-requires c κs = search rules
 
-outline-of-requires : tie.Need-outline-of-requires
+outline-of-requires : tie.Need-outline_of-line-requires
 outline-of-requires c κs = search rules
 
-config-of-requires : tie.Need-config-of-requires
+config-of-requires : tie.Need-config_of-config-requires
 config-of-requires c κs = search rules
 
-is-set-requires : tie.Need-is-set-requires
+is-set-requires : tie.Need-is_set-toned-requires
 is-set-requires c κs = search rules
 
-is-set-requires-2 : tie.Need-is-set-requires-2
+is-set-requires-2 : tie.Need-is_set-fixed-requires
 is-set-requires-2 c κs = search rules
 
-run-requires : tie.Need-run-requires
+run-requires : tie.Need-run-answer-requires
 run-requires c κs = search rules
 
-tell-run-requires : tie.Need-tell-run-requires
+tell-run-requires : tie.Need-tell_run-requires
 tell-run-requires c κs =
     let l = c.before.before.before.before.before.before in
     let u = l.before.before.before.before.before.before.before.before.before in
-    (processed-small _ l.run.ensures.0, roomy _ _ _ _ u.before.before.facts-rows.ensures u.enum_told.given.1)
+    (processed-small _ l.run-answer.ensures.0, roomy _ _ _ _ u.before.before.facts_rows.ensures u.enum_told-1.given.1)
 
-same_length : tie.Need-same-length
+same_length : tie.Need-shape_of-cells
 same_length c = search rules
 
-same-length-2 : tie.Need-same-length-2
+same-length-2 : tie.Need-shape_of-palette
 same-length-2 c = search rules
 
-same-length-3 : tie.Need-same-length-3
+same-length-3 : tie.Need-shape_of-work
 same-length-3 c = search rules
 
-same-length-4 : tie.Need-same-length-4
+same-length-4 : tie.Need-shape_of-facts
 same-length-4 c = search rules
 
-returns-2 : tie.Need-returns-2
+returns-2 : tie.Need-returns
 unfolding after_facts_rows
 returns-2 c =
     let t = c.before.before in
@@ -68,18 +68,18 @@ returns-2 c =
     let u = i.before.before.before.before.before in
     let s = u.before.before.before.before.before.before in
     let r = rw (
-      i.before.before.config-of.ensures,
-      i.before.before.before.before.beta-of.ensures,
-      i.before.before.before.outline-of.ensures,
-      i.before.is_set.ensures,
-      i.is-set2.ensures,
+      i.before.before.config_of-config.ensures,
+      i.before.before.before.before.beta_of-tone.ensures,
+      i.before.before.before.outline_of-line.ensures,
+      i.before.is_set-toned.ensures,
+      i.is_set-fixed.ensures,
       to_z-of_z s.ranges.region,
       to_z-of_z s.ranges.margin,
-    ) at l.run.ensures in
-    heard_two _ u.before.before.facts-rows.ensures u.enum_told.given.1 processed _ t.tell-run.ensures _ _ r
+    ) at l.run-answer.ensures in
+    heard_two _ u.before.before.facts_rows.ensures u.enum_told-1.given.1 processed _ t.tell_run.ensures _ _ r
 
-pub silk-run-spec : {M : Type 1} → statement M
-silk-run-spec =
+pub silk_run_spec : {M : Type 1} → statement M
+silk_run_spec =
     tie.close
     (tie.spec
     facts-rows-requires

@@ -10,5 +10,6 @@ use Rattle.silk_print.proofs.is_negative.Tie as tie
 returns : tie.Need-returns
 returns c = ap (λ (z : ℤ). lt_z z (pos 0)) (to_z-of_z c.ranges.c) ∙ sign_is c.args.c
 
-pub is-negative-spec : {M : Type 1} → statement M
-is-negative-spec = tie.close (tie.spec returns)
+pub is_negative_spec : {M : Type 1} → statement M
+is_negative_spec = tie.close (tie.spec
+    returns)

@@ -5,29 +5,35 @@ use Rattle.silk_reader.proofs.Signs.{wide_fits, wide_is, flip_fits, flip_is, fli
 use Rattle.silk_print.proofs.magnitude.Statement.{statement}
 use Rattle.silk_print.proofs.magnitude.Tie as tie
 
-cast-z : tie.Need-overflow-cast-z
+cast-z : tie.Need-overflow_cast-z
 cast-z c = wide_fits _ c.ranges.c
 
-sub-m : tie.Need-overflow-sub-m
+sub-m : tie.Need-overflow_sub-m
 sub-m c = flip_fits _ c.before.ranges.c
 
-cast-result : tie.Need-overflow-cast-result
+cast-result : tie.Need-overflow_cast-result
 cast-result c =
     let z = c.before.args.c in
     let f = c.before.ranges.c in
-    rw (flip_is z f) (flip_sign z (rw (wide_is z f) at c.if1.true), rw (flip_size z) (size_fits z f))
+    rw (flip_is z f) (flip_sign z (rw (wide_is z f) at c.if-z-lt0.true), rw (flip_size z) (size_fits z f))
 
-returns : tie.Need-returns
+returns : tie.Need-returns-then-z-lt0
 returns c = ap nat_abs (flip_is _ c.before.ranges.c) ∙ flip_size c.before.args.c
 
-cast-result-2 : tie.Need-overflow-cast-result-2
+cast-result-2 : tie.Need-overflow_cast-result-2
 cast-result-2 c =
     let z = c.before.args.c in
     let f = c.before.ranges.c in
-    rw (wide_is z f) (keep_sign z (rw (wide_is z f) at c.if1.false), size_fits z f)
+    rw (wide_is z f) (keep_sign z (rw (wide_is z f) at c.if-z-lt0.false), size_fits z f)
 
-returns-2 : tie.Need-returns-2
+returns-2 : tie.Need-returns
 returns-2 c = ap nat_abs (wide_is _ c.before.ranges.c)
 
-pub magnitude-spec : {M : Type 1} → statement M
-magnitude-spec = tie.close (tie.spec cast-z sub-m cast-result returns cast-result-2 returns-2)
+pub magnitude_spec : {M : Type 1} → statement M
+magnitude_spec = tie.close (tie.spec
+    cast-z
+    sub-m
+    cast-result
+    returns
+    cast-result-2
+    returns-2)

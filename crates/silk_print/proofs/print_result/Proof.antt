@@ -8,26 +8,31 @@ use Rattle.silk_print.proofs.Outcome.{printed_no, printed_yes, fits_printable}
 use Rattle.silk_print.proofs.print_result.Statement.{statement}
 use Rattle.silk_print.proofs.print_result.Tie as tie
 
-lengths-fit-requires : tie.Need-lengths-fit-requires
+lengths-fit-requires : tie.Need-lengths_fit-requires
 lengths-fit-requires c κs = tt
 
-returns : tie.Need-returns
+returns : tie.Need-returns-then-not-lengths_fit
 unfolding result_fits
-returns c = printed_no (sym c.before.lengths-fit.ensures ∙ not_true c.if1.true) _ _
+returns c = printed_no (sym c.before.lengths_fit.ensures ∙ not_true c.if-not-lengths_fit.true) _ _
 
-put-result-requires : tie.Need-put-result-requires
+put-result-requires : tie.Need-put_result-requires
 unfolding result_fits
-put-result-requires c κs = fits_printable _ _ _ _ (sym c.before.before.lengths-fit.ensures ∙ not_false _ c.before.if1.false)
+put-result-requires c κs = fits_printable _ _ _ _ (sym c.before.before.lengths_fit.ensures ∙ not_false _ c.before.if-not-lengths_fit.false)
 
-same_length : tie.Need-same-length
+same_length : tie.Need-shape_of-out
 same_length c = search rules
 
-returns-2 : tie.Need-returns-2
+returns-2 : tie.Need-returns
 unfolding result_fits
 returns-2 c =
     let result = c.before.before in
     let other1 = result.before.before in
-    printed_yes (sym other1.before.lengths-fit.ensures ∙ not_false _ other1.if1.false) result.put-result.ensures
+    printed_yes (sym other1.before.lengths_fit.ensures ∙ not_false _ other1.if-not-lengths_fit.false) result.put_result.ensures
 
-pub print-result-spec : {M : Type 1} → statement M
-print-result-spec = tie.close (tie.spec lengths-fit-requires returns put-result-requires same_length returns-2)
+pub print_result_spec : {M : Type 1} → statement M
+print_result_spec = tie.close (tie.spec
+    lengths-fit-requires
+    returns
+    put-result-requires
+    same_length
+    returns-2)

@@ -9,45 +9,45 @@ use Rattle.silk_print.proofs.Printing.{copied_put}
 use Rattle.silk_print.proofs.put_bytes.Statement.{statement}
 use Rattle.silk_print.proofs.put_bytes.Tie as tie
 
-abbrev invariant-loop : tie.invariant-loop
+abbrev invariant-loop : tie.invariant-loop-i
 invariant-loop out₀ at bytes i₀ out i =
     Copied bytes (length bytes) at out₀ i out
 
-abbrev decreases-loop : tie.decreases-loop
+abbrev decreases-loop : tie.decreases-loop-i
 decreases-loop out₀ at bytes i₀ out i = length bytes - i
 
-loop-holds : tie.Need-loop-init invariant-loop decreases-loop
+loop-holds : tie.Need-loop-i-init invariant-loop decreases-loop
 loop-holds c = copied_none _ _ _ _
 
-add-place : tie.Need-overflow-add-place invariant-loop decreases-loop
+add-place : tie.Need-overflow_add-place invariant-loop decreases-loop
 add-place c = omega arith
 
-shared-slice-read-out : tie.Need-shared-slice-read-out invariant-loop decreases-loop
+shared-slice-read-out : tie.Need-bounds-bytes-i invariant-loop decreases-loop
 shared-slice-read-out c = omega arith
 
-slice-write-out : tie.Need-slice-write-out invariant-loop decreases-loop
-slice-write-out c = omega (arith, c.before.before.loop.invariant.kept)
+slice-write-out : tie.Need-bounds-out-place invariant-loop decreases-loop
+slice-write-out c = omega (arith, c.before.before.loop-i.invariant.kept)
 
-add-i : tie.Need-overflow-add-i invariant-loop decreases-loop
+add-i : tie.Need-overflow_add-i invariant-loop decreases-loop
 add-i c = omega arith
 
-loop-less : tie.Need-loop-smaller invariant-loop decreases-loop
+loop-less : tie.Need-loop-i-smaller invariant-loop decreases-loop
 loop-less c = omega arith
 
-loop-again : tie.Need-loop-preserved invariant-loop decreases-loop
-loop-again c = copied_more c.before.before.loop.invariant 0 c.before.loop-test.true (le_refl _) c.before.before.before.requires refl refl
+loop-again : tie.Need-loop-i-preserved invariant-loop decreases-loop
+loop-again c = copied_more c.before.before.loop-i.invariant 0 c.before.loop-i-test.true (le_refl _) c.before.before.before.requires refl refl
 
-add-result : tie.Need-overflow-add-result invariant-loop decreases-loop
-add-result c = omega (arith, c.before.loop.invariant.inside)
+add-result : tie.Need-overflow_add-result invariant-loop decreases-loop
+add-result c = omega (arith, c.before.loop-i.invariant.inside)
 
-same_length : tie.Need-same-length invariant-loop decreases-loop
-same_length c = c.before.loop.invariant.kept
+same_length : tie.Need-shape_of-out invariant-loop decreases-loop
+same_length c = c.before.loop-i.invariant.kept
 
 returns : tie.Need-returns invariant-loop decreases-loop
-returns c = copied_put c.before.loop.invariant c.loop-test.false
+returns c = copied_put c.before.loop-i.invariant c.loop-i-test.false
 
-pub put-bytes-spec : {M : Type 1} → statement M
-put-bytes-spec =
+pub put_bytes_spec : {M : Type 1} → statement M
+put_bytes_spec =
     tie.close
     (tie.spec
     invariant-loop

@@ -10,49 +10,61 @@ use Rattle.silk_print.proofs.Printing.{Printing, printing_none, printing_room, p
 use Rattle.silk_print.proofs.put_cells.Statement.{statement}
 use Rattle.silk_print.proofs.put_cells.Tie as tie
 
-abbrev invariant-loop : tie.invariant-loop
+abbrev invariant-loop : tie.invariant-loop-x
 invariant-loop out₀ at cells from w to₀ x₀ out to x = Printing (λ i. cell_text i (get_or cells (from + i) (pos 0))) 12 w at out₀ x to out
 
-abbrev decreases-loop : tie.decreases-loop
+abbrev decreases-loop : tie.decreases-loop-x
 decreases-loop out₀ at cells from w to₀ x₀ out to x = w - x
 
-loop-holds : tie.Need-loop-init invariant-loop decreases-loop
+loop-holds : tie.Need-loop-x-init invariant-loop decreases-loop
 loop-holds c = printing_none _ 12 _ _ _
 
-add-place : tie.Need-overflow-add-place invariant-loop decreases-loop
+add-place : tie.Need-overflow_add-place invariant-loop decreases-loop
 add-place c = omega arith
 
-mul-put-cell : tie.Need-overflow-mul-put-cell invariant-loop decreases-loop
+mul-put-cell : tie.Need-offset_bounds-cells-place invariant-loop decreases-loop
 mul-put-cell c = omega arith
 
-shared-slice-copy-out-put-cell : tie.Need-shared-slice-copy-out-put-cell invariant-loop decreases-loop
+shared-slice-copy-out-put-cell : tie.Need-bounds-cells-place invariant-loop decreases-loop
 shared-slice-copy-out-put-cell c = omega arith
 
-put-cell-requires : tie.Need-put-cell-requires invariant-loop decreases-loop
+put-cell-requires : tie.Need-put_cell-to-requires invariant-loop decreases-loop
 put-cell-requires c κs =
     let loop = c.before.before.before in
-    printing_room loop.loop.invariant c.before.before.loop-test.true loop.before.before.requires.1
+    printing_room loop.loop-x.invariant c.before.before.loop-x-test.true loop.before.before.requires.1
 
-add-x : tie.Need-overflow-add-x invariant-loop decreases-loop
+add-x : tie.Need-overflow_add-x invariant-loop decreases-loop
 add-x c = omega arith
 
-loop-less : tie.Need-loop-smaller invariant-loop decreases-loop
+loop-less : tie.Need-loop-x-smaller invariant-loop decreases-loop
 loop-less c = omega arith
 
-loop-again : tie.Need-loop-preserved invariant-loop decreases-loop
+loop-again : tie.Need-loop-x-preserved invariant-loop decreases-loop
 loop-again c =
     let cell-arg2 = c.before.before.before in
     let loop = cell-arg2.before.before.before in
     let s = loop.before.before in
-    let fits = to_z-of_z {w = w32} {z = get_or s.args.cells.now (s.args.from + loop.loop.x) (pos 0)} (record { sfits = cell-arg2.put-cell-arg2.given }) in
-    printing_more loop.loop.invariant cell-arg2.before.before.loop-test.true s.requires.1 (rw fits at c.before.before.put-cell.ensures)
+    let fits = to_z-of_z {w = w32} {z = get_or s.args.cells.now (s.args.from + loop.loop-x.x) (pos 0)} (record { sfits = cell-arg2.put_cell-arg-in-loop-x-1.given }) in
+    printing_more loop.loop-x.invariant cell-arg2.before.before.loop-x-test.true s.requires.1 (rw fits at c.before.before.put_cell-to.ensures)
 
-same_length : tie.Need-same-length invariant-loop decreases-loop
-same_length c = c.before.loop.invariant.kept
+same_length : tie.Need-shape_of-out invariant-loop decreases-loop
+same_length c = c.before.loop-x.invariant.kept
 
 returns : tie.Need-returns invariant-loop decreases-loop
 unfolding cells_text
-returns c = printing_all c.before.loop.invariant c.loop-test.false
+returns c = printing_all c.before.loop-x.invariant c.loop-x-test.false
 
-pub put-cells-spec : {M : Type 1} → statement M
-put-cells-spec = tie.close (tie.spec invariant-loop decreases-loop loop-holds add-place mul-put-cell shared-slice-copy-out-put-cell put-cell-requires add-x loop-less loop-again same_length returns)
+pub put_cells_spec : {M : Type 1} → statement M
+put_cells_spec = tie.close (tie.spec
+    invariant-loop
+    decreases-loop
+    loop-holds
+    add-place
+    mul-put-cell
+    shared-slice-copy-out-put-cell
+    put-cell-requires
+    add-x
+    loop-less
+    loop-again
+    same_length
+    returns)

@@ -8,57 +8,57 @@ use Rattle.silk_print.proofs.Printing.{Printing, printing_none, printing_room, p
 use Rattle.silk_print.proofs.put_colours.Statement.{statement}
 use Rattle.silk_print.proofs.put_colours.Tie as tie
 
-abbrev invariant-loop : tie.invariant-loop
+abbrev invariant-loop : tie.invariant-loop-i
 invariant-loop out₀ at palette k table to₀ i₀ out to i = Printing (λ j. colour_text (lab_to_rgb8 (entry palette j))) 14 k at out₀ i to out
 
-abbrev decreases-loop : tie.decreases-loop
+abbrev decreases-loop : tie.decreases-loop-i
 decreases-loop out₀ at palette k table to₀ i₀ out to i = k - i
 
-abbrev start : tie.At-loop invariant-loop decreases-loop → tie.Start invariant-loop decreases-loop
+abbrev start : tie.At-loop-i invariant-loop decreases-loop → tie.Start invariant-loop decreases-loop
 start c = c.before.before.before.before
 
-threshold-table-requires : tie.Need-threshold-table-requires invariant-loop decreases-loop
+threshold-table-requires : tie.Need-threshold_table-table-requires invariant-loop decreases-loop
 threshold-table-requires c κs = tt
 
-loop-holds : tie.Need-loop-init invariant-loop decreases-loop
+loop-holds : tie.Need-loop-i-init invariant-loop decreases-loop
 loop-holds c = printing_none _ 14 _ _ _
 
-entry-requires : tie.Need-entry-requires invariant-loop decreases-loop
+entry-requires : tie.Need-entry-lab-requires invariant-loop decreases-loop
 entry-requires c κs = omega arith
 
-slice-aggregate-lab-to-rgb8-by : tie.Need-slice-aggregate-lab-to-rgb8-by invariant-loop decreases-loop
+slice-aggregate-lab-to-rgb8-by : tie.Need-slice_bounds-lab_to_rgb8_by-end invariant-loop decreases-loop
 slice-aggregate-lab-to-rgb8-by c = search rules
 
-lab-to-rgb8-by-requires : tie.Need-lab-to-rgb8-by-requires invariant-loop decreases-loop
-lab-to-rgb8-by-requires c κs = c.before.before.before.before.before.threshold-table.ensures
+lab-to-rgb8-by-requires : tie.Need-lab_to_rgb8_by-requires invariant-loop decreases-loop
+lab-to-rgb8-by-requires c κs = c.before.before.before.before.before.threshold_table-table.ensures
 
-put-colour-line-requires : tie.Need-put-colour-line-requires invariant-loop decreases-loop
+put-colour-line-requires : tie.Need-put_colour_line-to-requires invariant-loop decreases-loop
 put-colour-line-requires c κs =
     let turn = c.before.before.before.before in
-    printing_room turn.before.loop.invariant turn.loop-test.true (start turn.before).pre.1
+    printing_room turn.before.loop-i.invariant turn.loop-i-test.true (start turn.before).requires.1
 
-add-i : tie.Need-overflow-add-i invariant-loop decreases-loop
+add-i : tie.Need-overflow_add-i invariant-loop decreases-loop
 add-i c = omega arith
 
-loop-less : tie.Need-loop-smaller invariant-loop decreases-loop
+loop-less : tie.Need-loop-i-smaller invariant-loop decreases-loop
 loop-less c = omega arith
 
-loop-again : tie.Need-loop-preserved invariant-loop decreases-loop
+loop-again : tie.Need-loop-i-preserved invariant-loop decreases-loop
 loop-again c =
     let made = c.before.before.before in
     let turn = made.before.before.before.before in
-    printing_more turn.before.loop.invariant turn.loop-test.true (start turn.before).pre.1
-    (rw (made.lab-to-rgb8-by.ensures, made.before.before.before.entry.ensures) at c.before.before.put-colour-line.ensures)
+    printing_more turn.before.loop-i.invariant turn.loop-i-test.true (start turn.before).requires.1
+    (rw (made.lab_to_rgb8_by.ensures, made.before.before.before.entry-lab.ensures) at c.before.before.put_colour_line-to.ensures)
 
-same_length : tie.Need-same-length invariant-loop decreases-loop
-same_length c = c.before.loop.invariant.kept
+same_length : tie.Need-shape_of-out invariant-loop decreases-loop
+same_length c = c.before.loop-i.invariant.kept
 
 returns : tie.Need-returns invariant-loop decreases-loop
 unfolding colours_text
-returns c = printing_all c.before.loop.invariant c.loop-test.false
+returns c = printing_all c.before.loop-i.invariant c.loop-i-test.false
 
-pub put-colours-spec : {M : Type 1} → statement M
-put-colours-spec =
+pub put_colours_spec : {M : Type 1} → statement M
+put_colours_spec =
     tie.close
     (tie.spec
     invariant-loop

@@ -6,19 +6,19 @@ use Rattle.silk_print.proofs.Printing.{put_both}
 use Rattle.silk_print.proofs.put_hex_byte.Statement.{statement}
 use Rattle.silk_print.proofs.put_hex_byte.Tie as tie
 
-hex-digit-requires : tie.Need-hex-digit-requires
+hex-digit-requires : tie.Need-hex_digit-requires
 hex-digit-requires c κs = search rules
 
-put-byte-requires : tie.Need-put-byte-requires
+put-byte-requires : tie.Need-put_byte-next-requires
 put-byte-requires c κs = search rules
 
-hex-digit-requires-2 : tie.Need-hex-digit-requires-2
+hex-digit-requires-2 : tie.Need-hex_digit-requires-2
 hex-digit-requires-2 c κs = search rules
 
-put-byte-requires-2 : tie.Need-put-byte-requires-2
+put-byte-requires-2 : tie.Need-put_byte-requires
 put-byte-requires-2 c κs = search rules
 
-same_length : tie.Need-same-length
+same_length : tie.Need-shape_of-out
 same_length c = search rules
 
 returns : tie.Need-returns
@@ -26,7 +26,13 @@ unfolding hex_byte
 returns c =
     let hex-digit2 = c.before.before.before in
     let byte = hex-digit2.before.before.before.before in
-    rw (← byte.before.hex-digit.ensures, ← hex-digit2.hex-digit2.ensures) (put_both byte.put_byte.ensures c.before.before.put-byte2.ensures (omega arith))
+    rw (← byte.before.hex_digit.ensures, ← hex-digit2.hex_digit-2.ensures) (put_both byte.put_byte-next.ensures c.before.before.put_byte.ensures (omega arith))
 
-pub put-hex-byte-spec : {M : Type 1} → statement M
-put-hex-byte-spec = tie.close (tie.spec hex-digit-requires put-byte-requires hex-digit-requires-2 put-byte-requires-2 same_length returns)
+pub put_hex_byte_spec : {M : Type 1} → statement M
+put_hex_byte_spec = tie.close (tie.spec
+    hex-digit-requires
+    put-byte-requires
+    hex-digit-requires-2
+    put-byte-requires-2
+    same_length
+    returns)

@@ -8,44 +8,47 @@ use Rattle.silk_print.proofs.Printing.{put_as}
 use Rattle.silk_print.proofs.put_index.Statement.{statement}
 use Rattle.silk_print.proofs.put_index.Tie as tie
 
-enum_told : tie.Need-enum-told
+enum_told : tie.Need-enum_told-1
 enum_told c = search rules
 
-slice-aggregate-put-bytes : tie.Need-slice-aggregate-put-bytes
-slice-aggregate-put-bytes c = search rules
-
-put-bytes-requires : tie.Need-put-bytes-requires
+put-bytes-requires : tie.Need-put_bytes-requires
 put-bytes-requires c κs = omega arith
 
-enum-known-index : tie.Need-enum-known-index
+enum-known-index : tie.Need-enum_known-index
 enum-known-index c = search rules
 
-slice-aggregate-put-number-line : tie.Need-slice-aggregate-put-number-line
-slice-aggregate-put-number-line c = search rules
-
-cast-put-number-line : tie.Need-overflow-cast-put-number-line
+cast-put-number-line : tie.Need-overflow_cast-i
 cast-put-number-line c = search rules
 
-put-number-line-requires : tie.Need-put-number-line-requires
+put-number-line-requires : tie.Need-put_number_line-requires
 put-number-line-requires c κs = search rules
 
-same_length : tie.Need-same-length
+same_length : tie.Need-shape_of-out-in-Nothing
 same_length c = search rules
 
-returns : tie.Need-returns
+returns : tie.Need-returns-in-Nothing
 unfolding index_text codes
 returns c =
     let bytes = c.before.before in
-    rw bytes.before.before.before.enum_told.given.1 (put_as bytes.put-bytes.ensures refl (omega arith))
+    rw bytes.before.before.before.enum_told-1.given.1 (put_as bytes.put_bytes.ensures refl (omega arith))
 
-same-length-2 : tie.Need-same-length-2
+same-length-2 : tie.Need-shape_of-out-in-Entry
 same-length-2 c = search rules
 
-returns-2 : tie.Need-returns-2
+returns-2 : tie.Need-returns-in-Entry
 unfolding index_text codes
 returns-2 c =
     let number-line = c.before.before in
-    rw number-line.before.before.before.before.index.given.1 number-line.put-number-line.ensures
+    rw number-line.before.before.before.before.index-1.given.1 number-line.put_number_line.ensures
 
-pub put-index-spec : {M : Type 1} → statement M
-put-index-spec = tie.close (tie.spec enum_told slice-aggregate-put-bytes put-bytes-requires enum-known-index slice-aggregate-put-number-line cast-put-number-line put-number-line-requires same_length returns same-length-2 returns-2)
+pub put_index_spec : {M : Type 1} → statement M
+put_index_spec = tie.close (tie.spec
+    enum_told
+    put-bytes-requires
+    enum-known-index
+    cast-put-number-line
+    put-number-line-requires
+    same_length
+    returns
+    same-length-2
+    returns-2)

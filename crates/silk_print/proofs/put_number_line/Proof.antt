@@ -10,32 +10,29 @@ use Rattle.silk_print.proofs.put_number_line.Statement.{statement}
 use Rattle.silk_print.proofs.put_number_line.Tie as tie
 
 -- places on the way, each seen from a later one
-abbrev start : tie.After-put-bytes → tie.Start
+abbrev start : tie.After-put_bytes-value → tie.Start
 start c = c.before.before.before.before
 
-abbrev bytes : tie.After-put-number → tie.After-put-bytes
+abbrev bytes : tie.After-put_number-end → tie.After-put_bytes-value
 bytes c = c.before.before.before.before
 
-abbrev number : tie.After-put-bytes2 → tie.After-put-number
+abbrev number : tie.After-put_bytes → tie.After-put_number-end
 number c = c.before.before.before.before.before
 
-put-bytes-requires : tie.Need-put-bytes-requires
+put-bytes-requires : tie.Need-put_bytes-value-requires
 put-bytes-requires c κs = omega arith
 
-put-number-requires : tie.Need-put-number-requires
+put-number-requires : tie.Need-put_number-end-requires
 put-number-requires c κs =
     let at-bytes = c.before.before.before in
-    put_room at-bytes.put-bytes.ensures _ (omega (arith, numeral_short 9 _ (start at-bytes).requires.0))
+    put_room at-bytes.put_bytes-value.ensures _ (omega (arith, numeral_short 9 _ (start at-bytes).requires.0))
 
-slice-aggregate-put-bytes : tie.Need-slice-aggregate-put-bytes
-slice-aggregate-put-bytes c = search rules
-
-put-bytes-requires-2 : tie.Need-put-bytes-requires-2
+put-bytes-requires-2 : tie.Need-put_bytes-requires
 put-bytes-requires-2 c κs =
     let at-number = c.before.before.before.before in
-    third_room (bytes at-number).put-bytes.ensures at-number.put-number.ensures 1 (omega (arith, numeral_short 9 _ (start (bytes at-number)).requires.0))
+    third_room (bytes at-number).put_bytes-value.ensures at-number.put_number-end.ensures 1 (omega (arith, numeral_short 9 _ (start (bytes at-number)).requires.0))
 
-same_length : tie.Need-same-length
+same_length : tie.Need-shape_of-out
 same_length c = search rules
 
 returns : tie.Need-returns
@@ -43,7 +40,12 @@ unfolding number_text newline
 returns c =
     let bytes2 = c.before.before in
     let s = numeral_short 9 _ (start (bytes (number bytes2))).requires.0 in
-    put_as (put_three (bytes (number bytes2)).put-bytes.ensures (number bytes2).put-number.ensures bytes2.put-bytes2.ensures (omega arith)) refl (omega arith)
+    put_as (put_three (bytes (number bytes2)).put_bytes-value.ensures (number bytes2).put_number-end.ensures bytes2.put_bytes.ensures (omega arith)) refl (omega arith)
 
-pub put-number-line-spec : {M : Type 1} → statement M
-put-number-line-spec = tie.close (tie.spec put-bytes-requires put-number-requires slice-aggregate-put-bytes put-bytes-requires-2 same_length returns)
+pub put_number_line_spec : {M : Type 1} → statement M
+put_number_line_spec = tie.close (tie.spec
+    put-bytes-requires
+    put-number-requires
+    put-bytes-requires-2
+    same_length
+    returns)

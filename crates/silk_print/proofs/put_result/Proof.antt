@@ -8,31 +8,31 @@ use Rattle.silk_print.proofs.put_result.Statement.{statement}
 use Rattle.silk_print.proofs.put_result.Tie as tie
 
 -- places on the way, each seen from a later one
-abbrev start : tie.After-put-head → tie.Start
+abbrev start : tie.After-put_head-colours → tie.Start
 start c = c.before.before.before.before
 
-abbrev head : tie.After-put-colours → tie.After-put-head
+abbrev head : tie.After-put_colours-rows → tie.After-put_head-colours
 head c = c.before.before.before.before
 
-put-head-requires : tie.Need-put-head-requires
+put-head-requires : tie.Need-put_head-colours-requires
 unfolding room_for
 put-head-requires c κs =
     let at-start = c.before.before.before in
     (at-start.requires.sizes, omega (arith, at-start.requires.room))
 
-put-colours-requires : tie.Need-put-colours-requires
+put-colours-requires : tie.Need-put_colours-rows-requires
 unfolding room_for
 put-colours-requires c κs =
     let at_head = c.before.before.before in
-    ((start at_head).requires.entries, put_room at_head.put-head.ensures _ (omega (arith, (start at_head).requires.room)))
+    ((start at_head).requires.entries, put_room at_head.put_head-colours.ensures _ (omega (arith, (start at_head).requires.room)))
 
-put-rows-requires : tie.Need-put-rows-requires
+put-rows-requires : tie.Need-put_rows-requires
 unfolding room_for
 put-rows-requires c κs =
     let colours = c.before.before.before in
-    ((start (head colours)).requires.sheet, third_room (head colours).put-head.ensures colours.put-colours.ensures _ (omega (arith, (start (head colours)).requires.room)))
+    ((start (head colours)).requires.sheet, third_room (head colours).put_head-colours.ensures colours.put_colours-rows.ensures _ (omega (arith, (start (head colours)).requires.room)))
 
-same_length : tie.Need-same-length
+same_length : tie.Need-shape_of-out
 same_length c = search rules
 
 returns : tie.Need-returns
@@ -40,7 +40,12 @@ unfolding result_text room_for
 returns c =
     let rows = c.before.before in
     let colours = rows.before.before.before.before in
-    put_as (put_three (head colours).put-head.ensures colours.put-colours.ensures rows.put-rows.ensures (omega (arith, (start (head colours)).requires.room))) refl (omega arith)
+    put_as (put_three (head colours).put_head-colours.ensures colours.put_colours-rows.ensures rows.put_rows.ensures (omega (arith, (start (head colours)).requires.room))) refl (omega arith)
 
-pub put-result-spec : {M : Type 1} → statement M
-put-result-spec = tie.close (tie.spec put-head-requires put-colours-requires put-rows-requires same_length returns)
+pub put_result_spec : {M : Type 1} → statement M
+put_result_spec = tie.close (tie.spec
+    put-head-requires
+    put-colours-requires
+    put-rows-requires
+    same_length
+    returns)

@@ -9,39 +9,38 @@ use Rattle.silk_print.proofs.put_row.Statement.{statement}
 use Rattle.silk_print.proofs.put_row.Tie as tie
 
 -- places on the way, each seen from a later one
-abbrev bytes : tie.After-put-cells → tie.After-put-bytes
+abbrev bytes : tie.After-put_cells-last → tie.After-put_bytes-first
 bytes c = c.before.before.before.before
 
-abbrev cells : tie.After-put-bytes2 → tie.After-put-cells
+abbrev cells : tie.After-put_bytes → tie.After-put_cells-last
 cells c = c.before.before.before.before.before
 
-slice-aggregate-put-bytes : tie.Need-slice-aggregate-put-bytes
-slice-aggregate-put-bytes c = search rules
-
-put-bytes-requires : tie.Need-put-bytes-requires
+put-bytes-requires : tie.Need-put_bytes-first-requires
 put-bytes-requires c κs = omega arith
 
-put-cells-requires : tie.Need-put-cells-requires
+put-cells-requires : tie.Need-put_cells-last-requires
 put-cells-requires c κs =
     let at-bytes = c.before.before.before in
-    (at-bytes.before.before.before.before.requires.0, put_room at-bytes.put-bytes.ensures _ (omega arith))
+    (at-bytes.before.before.before.before.requires.0, put_room at-bytes.put_bytes-first.ensures _ (omega arith))
 
-slice-aggregate-put-bytes-2 : tie.Need-slice-aggregate-put-bytes-2
-slice-aggregate-put-bytes-2 c = search rules
-
-put-bytes-requires-2 : tie.Need-put-bytes-requires-2
+put-bytes-requires-2 : tie.Need-put_bytes-requires
 put-bytes-requires-2 c κs =
     let at_cells = c.before.before.before.before in
-    third_room (bytes at_cells).put-bytes.ensures at_cells.put-cells.ensures 1 (omega arith)
+    third_room (bytes at_cells).put_bytes-first.ensures at_cells.put_cells-last.ensures 1 (omega arith)
 
-same_length : tie.Need-same-length
+same_length : tie.Need-shape_of-out
 same_length c = search rules
 
 returns : tie.Need-returns
 unfolding row_text codes newline
 returns c =
     let bytes2 = c.before.before in
-    put_as (put_three (bytes (cells bytes2)).put-bytes.ensures (cells bytes2).put-cells.ensures bytes2.put-bytes2.ensures (omega arith)) refl (omega arith)
+    put_as (put_three (bytes (cells bytes2)).put_bytes-first.ensures (cells bytes2).put_cells-last.ensures bytes2.put_bytes.ensures (omega arith)) refl (omega arith)
 
-pub put-row-spec : {M : Type 1} → statement M
-put-row-spec = tie.close (tie.spec slice-aggregate-put-bytes put-bytes-requires put-cells-requires slice-aggregate-put-bytes-2 put-bytes-requires-2 same_length returns)
+pub put_row_spec : {M : Type 1} → statement M
+put_row_spec = tie.close (tie.spec
+    put-bytes-requires
+    put-cells-requires
+    put-bytes-requires-2
+    same_length
+    returns)

@@ -8,38 +8,29 @@ use Rattle.silk_print.proofs.put_sizes.Statement.{statement}
 use Rattle.silk_print.proofs.put_sizes.Tie as tie
 
 -- the start, seen from the first line, and each line, seen from where the next is to be put
-abbrev start : tie.After-put-number-line → tie.Start
+abbrev start : tie.After-put_number_line-width → tie.Start
 start c = c.before.before.before.before
 
-abbrev number-line : tie.After-put-number-line-arg4 → tie.After-put-number-line
+abbrev number-line : tie.After-put_number_line-arg-4-1 → tie.After-put_number_line-width
 number-line c = c.before.before.before.before
 
-abbrev number_line2 : tie.After-put-number-line-arg6 → tie.After-put-number-line2
+abbrev number_line2 : tie.After-put_number_line-arg-6-1 → tie.After-put_number_line-colours
 number_line2 c = c.before.before.before.before
 
-slice-aggregate-put-number-line : tie.Need-slice-aggregate-put-number-line
-slice-aggregate-put-number-line c = search rules
-
-put-number-line-requires : tie.Need-put-number-line-requires
+put-number-line-requires : tie.Need-put_number_line-width-requires
 put-number-line-requires c κs = (omega (arith, c.before.before.before.requires.0.high), omega arith)
 
-slice-aggregate-put-number-line-2 : tie.Need-slice-aggregate-put-number-line-2
-slice-aggregate-put-number-line-2 c = search rules
-
-put-number-line-requires-2 : tie.Need-put-number-line-requires-2
+put-number-line-requires-2 : tie.Need-put_number_line-colours-requires
 put-number-line-requires-2 c κs =
-    (omega (arith, (start (number-line c)).requires.0.wide), put_room (number-line c).put-number-line.ensures 17 (omega arith))
+    (omega (arith, (start (number-line c)).requires.0.wide), put_room (number-line c).put_number_line-width.ensures 17 (omega arith))
 
-slice-aggregate-put-number-line-3 : tie.Need-slice-aggregate-put-number-line-3
-slice-aggregate-put-number-line-3 c = search rules
-
-put-number-line-requires-3 : tie.Need-put-number-line-requires-3
+put-number-line-requires-3 : tie.Need-put_number_line-requires
 put-number-line-requires-3 c κs =
     let second = number_line2 c in
     let first = number-line second.before in
-    (omega (arith, (start first).pre.0.few), third_room first.put-number-line.ensures second.put-number-line2.ensures 19 (start first).pre.1)
+    (omega (arith, (start first).requires.0.few), third_room first.put_number_line-width.ensures second.put_number_line-colours.ensures 19 (start first).requires.1)
 
-same_length : tie.Need-same-length
+same_length : tie.Need-shape_of-out
 same_length c = search rules
 
 returns : tie.Need-returns
@@ -48,7 +39,12 @@ returns c =
     let third = c.before.before in
     let second = number_line2 third.before in
     let first = number-line second.before in
-    put_three first.put-number-line.ensures second.put-number-line2.ensures third.put-number-line3.ensures (start first).pre.1
+    put_three first.put_number_line-width.ensures second.put_number_line-colours.ensures third.put_number_line.ensures (start first).requires.1
 
-pub put-sizes-spec : {M : Type 1} → statement M
-put-sizes-spec = tie.close (tie.spec slice-aggregate-put-number-line put-number-line-requires slice-aggregate-put-number-line-2 put-number-line-requires-2 slice-aggregate-put-number-line-3 put-number-line-requires-3 same_length returns)
+pub put_sizes_spec : {M : Type 1} → statement M
+put_sizes_spec = tie.close (tie.spec
+    put-number-line-requires
+    put-number-line-requires-2
+    put-number-line-requires-3
+    same_length
+    returns)

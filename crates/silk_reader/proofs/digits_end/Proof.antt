@@ -8,37 +8,47 @@ use Rattle.silk_reader.proofs.Scanning.{Passed, passed_more, passed_to, passed_a
 use Rattle.silk_reader.proofs.digits_end.Statement.{statement}
 use Rattle.silk_reader.proofs.digits_end.Tie as tie
 
-abbrev invariant-loop : tie.invariant-loop
+abbrev invariant-loop : tie.invariant-loop-end
 invariant-loop text at end₀ end = Passed is_digit text at end
 
-abbrev decreases-loop : tie.decreases-loop
+abbrev decreases-loop : tie.decreases-loop-end
 decreases-loop text at end₀ end = length text - end
 
-loop-holds : tie.Need-loop-init invariant-loop decreases-loop
+loop-holds : tie.Need-loop-end-init invariant-loop decreases-loop
 loop-holds c = record { same = refl }
 
-shared-slice-read-is-digit : tie.Need-shared-slice-read-is-digit invariant-loop decreases-loop
+shared-slice-read-is-digit : tie.Need-bounds-text-end invariant-loop decreases-loop
 shared-slice-read-is-digit c = omega arith
 
-is-digit-requires : tie.Need-is-digit-requires invariant-loop decreases-loop
+is-digit-requires : tie.Need-is_digit-requires invariant-loop decreases-loop
 is-digit-requires c κs = tt
 
-add-end : tie.Need-overflow-add-end invariant-loop decreases-loop
+add-end : tie.Need-overflow_add-end invariant-loop decreases-loop
 add-end c = omega arith
 
-loop-less : tie.Need-loop-smaller invariant-loop decreases-loop
+loop-less : tie.Need-loop-end-smaller invariant-loop decreases-loop
 loop-less c = omega arith
 
-loop-again : tie.Need-loop-preserved invariant-loop decreases-loop
-loop-again c = passed_more c.before.before.before.before.loop.invariant c.before.before.before.loop-test.true (sym c.before.is_digit.ensures ∙ c.if1.true)
+loop-again : tie.Need-loop-end-preserved invariant-loop decreases-loop
+loop-again c = passed_more c.before.before.before.before.loop-end.invariant c.before.before.before.loop-end-test.true (sym c.before.is_digit.ensures ∙ c.if-is_digit.true)
 
-returns : tie.Need-returns invariant-loop decreases-loop
-returns c = passed_to c.before.before.before.before.loop.invariant c.before.before.before.loop-test.true (sym c.before.is_digit.ensures ∙ c.if1.false)
+returns : tie.Need-returns-else-is_digit invariant-loop decreases-loop
+returns c = passed_to c.before.before.before.before.loop-end.invariant c.before.before.before.loop-end-test.true (sym c.before.is_digit.ensures ∙ c.if-is_digit.false)
 
-returns-2 : tie.Need-returns-2 invariant-loop decreases-loop
-returns-2 c = passed_all c.before.loop.invariant c.loop-test.false
+returns-2 : tie.Need-returns-after-loop-end invariant-loop decreases-loop
+returns-2 c = passed_all c.before.loop-end.invariant c.loop-end-test.false
 
-pub digits-end-spec : {M : Type 1} → statement M
-digits-end-spec =
+pub digits_end_spec : {M : Type 1} → statement M
+digits_end_spec =
     tie.close
-    (tie.spec invariant-loop decreases-loop loop-holds shared-slice-read-is-digit is-digit-requires add-end loop-less loop-again returns returns-2)
+    (tie.spec
+    invariant-loop
+    decreases-loop
+    loop-holds
+    shared-slice-read-is-digit
+    is-digit-requires
+    add-end
+    loop-less
+    loop-again
+    returns
+    returns-2)

@@ -8,37 +8,37 @@ use Rattle.silk_reader.proofs.Scanning.{Passed, passed_more, passed_to, passed_a
 use Rattle.silk_reader.proofs.line_end.Statement.{statement}
 use Rattle.silk_reader.proofs.line_end.Tie as tie
 
-abbrev invariant-loop : tie.invariant-loop
+abbrev invariant-loop : tie.invariant-loop-end
 invariant-loop text at end₀ end = Passed in_line text at end
 
-abbrev decreases-loop : tie.decreases-loop
+abbrev decreases-loop : tie.decreases-loop-end
 decreases-loop text at end₀ end = length text - end
 
-loop-holds : tie.Need-loop-init invariant-loop decreases-loop
+loop-holds : tie.Need-loop-end-init invariant-loop decreases-loop
 loop-holds c = record { same = refl }
 
-shared-slice-read-if1 : tie.Need-shared-slice-read-if1 invariant-loop decreases-loop
+shared-slice-read-if1 : tie.Need-bounds-text-end invariant-loop decreases-loop
 shared-slice-read-if1 c = omega arith
 
-add-end : tie.Need-overflow-add-end invariant-loop decreases-loop
+add-end : tie.Need-overflow_add-end invariant-loop decreases-loop
 add-end c = omega arith
 
-loop-less : tie.Need-loop-smaller invariant-loop decreases-loop
+loop-less : tie.Need-loop-end-smaller invariant-loop decreases-loop
 loop-less c = omega arith
 
-loop-again : tie.Need-loop-preserved invariant-loop decreases-loop
+loop-again : tie.Need-loop-end-preserved invariant-loop decreases-loop
 unfolding in_line
-loop-again c = passed_more c.before.before.before.loop.invariant c.before.before.loop-test.true c.if1.true
+loop-again c = passed_more c.before.before.before.loop-end.invariant c.before.before.loop-end-test.true c.if-text-end-ne10.true
 
-returns : tie.Need-returns invariant-loop decreases-loop
+returns : tie.Need-returns-else-text-end-ne10 invariant-loop decreases-loop
 unfolding in_line
-returns c = passed_to c.before.before.before.loop.invariant c.before.before.loop-test.true c.if1.false
+returns c = passed_to c.before.before.before.loop-end.invariant c.before.before.loop-end-test.true c.if-text-end-ne10.false
 
-returns-2 : tie.Need-returns-2 invariant-loop decreases-loop
-returns-2 c = passed_all c.before.loop.invariant c.loop-test.false
+returns-2 : tie.Need-returns-after-loop-end invariant-loop decreases-loop
+returns-2 c = passed_all c.before.loop-end.invariant c.loop-end-test.false
 
-pub line-end-spec : {M : Type 1} → statement M
-line-end-spec =
+pub line_end_spec : {M : Type 1} → statement M
+line_end_spec =
     tie.close
     (tie.spec
     invariant-loop

@@ -6,43 +6,55 @@ use Rattle.silk_reader.proofs.Scanning.{Valued, valued_none, digit_at, valued_fi
 use Rattle.silk_reader.proofs.value.Statement.{statement}
 use Rattle.silk_reader.proofs.value.Tie as tie
 
-abbrev invariant-loop : tie.invariant-loop
+abbrev invariant-loop : tie.invariant-loop-i
 invariant-loop digits v₀ i₀ v i = Valued digits v i
 
-abbrev decreases-loop : tie.decreases-loop
+abbrev decreases-loop : tie.decreases-loop-i
 decreases-loop digits v₀ i₀ v i = length digits - i
 
-loop-holds : tie.Need-loop-init invariant-loop decreases-loop
+loop-holds : tie.Need-loop-i-init invariant-loop decreases-loop
 loop-holds c = valued_none _
 
-shared-slice-read-d : tie.Need-shared-slice-read-d invariant-loop decreases-loop
+shared-slice-read-d : tie.Need-bounds-digits-i invariant-loop decreases-loop
 shared-slice-read-d c = omega arith
 
-sub-d : tie.Need-overflow-sub-d invariant-loop decreases-loop
-sub-d c = omega (arith, digit_at c.before.before.before.requires c.before.before.loop.invariant c.before.loop-test.true)
+sub-d : tie.Need-overflow_sub-d invariant-loop decreases-loop
+sub-d c = omega (arith, digit_at c.before.before.before.requires c.before.before.loop-i.invariant c.before.loop-i-test.true)
 
-mul-v : tie.Need-overflow-mul-v invariant-loop decreases-loop
-mul-v c = omega (arith, valued_fits c.before.before.before.requires c.before.before.loop.invariant c.before.loop-test.true)
+mul-v : tie.Need-overflow_mul-v invariant-loop decreases-loop
+mul-v c = omega (arith, valued_fits c.before.before.before.requires c.before.before.loop-i.invariant c.before.loop-i-test.true)
 
-cast-v : tie.Need-overflow-cast-v invariant-loop decreases-loop
-cast-v c = omega (arith, digit_at c.before.before.before.requires c.before.before.loop.invariant c.before.loop-test.true)
+cast-v : tie.Need-overflow_cast-v invariant-loop decreases-loop
+cast-v c = omega (arith, digit_at c.before.before.before.requires c.before.before.loop-i.invariant c.before.loop-i-test.true)
 
-add-v : tie.Need-overflow-add-v invariant-loop decreases-loop
-add-v c = omega (arith, valued_fits c.before.before.before.requires c.before.before.loop.invariant c.before.loop-test.true)
+add-v : tie.Need-overflow_add-v invariant-loop decreases-loop
+add-v c = omega (arith, valued_fits c.before.before.before.requires c.before.before.loop-i.invariant c.before.loop-i-test.true)
 
-add-i : tie.Need-overflow-add-i invariant-loop decreases-loop
+add-i : tie.Need-overflow_add-i invariant-loop decreases-loop
 add-i c = omega arith
 
-loop-less : tie.Need-loop-smaller invariant-loop decreases-loop
+loop-less : tie.Need-loop-i-smaller invariant-loop decreases-loop
 loop-less c = omega arith
 
-loop-again : tie.Need-loop-preserved invariant-loop decreases-loop
-loop-again c = valued_more c.before.before.before.requires c.before.before.loop.invariant c.before.loop-test.true
+loop-again : tie.Need-loop-i-preserved invariant-loop decreases-loop
+loop-again c = valued_more c.before.before.before.requires c.before.before.loop-i.invariant c.before.loop-i-test.true
 
 returns : tie.Need-returns invariant-loop decreases-loop
-returns c = valued_all c.before.before.requires c.before.loop.invariant c.loop-test.false
+returns c = valued_all c.before.before.requires c.before.loop-i.invariant c.loop-i-test.false
 
 pub value_spec : {M : Type 1} → statement M
 value_spec =
     tie.close
-    (tie.spec invariant-loop decreases-loop loop-holds shared-slice-read-d sub-d mul-v cast-v add-v add-i loop-less loop-again returns)
+    (tie.spec
+    invariant-loop
+    decreases-loop
+    loop-holds
+    shared-slice-read-d
+    sub-d
+    mul-v
+    cast-v
+    add-v
+    add-i
+    loop-less
+    loop-again
+    returns)

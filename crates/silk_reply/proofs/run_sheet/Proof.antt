@@ -7,7 +7,7 @@ use Rattle.silk_reply.proofs.Replying.{called}
 use Rattle.silk_reply.proofs.run_sheet.Statement.{statement}
 use Rattle.silk_reply.proofs.run_sheet.Tie as tie
 
-slice-aggregate-run : tie.Need-slice-aggregate-run
+slice-aggregate-run : tie.Need-slice_bounds-run-end-3
 slice-aggregate-run c = search rules
 
 run-requires : tie.Need-run-requires
@@ -19,5 +19,8 @@ returns c =
     let args = after.before.before.before.before.before.before.args in
     called args.h args.palette.now args.cells.now (search rules) (length-replicate {A = ℕ} _ 0) (omega arith) after.run.ensures
 
-pub run-sheet-spec : {M : Type 1} → statement M
-run-sheet-spec = tie.close (tie.spec slice-aggregate-run run-requires returns)
+pub run_sheet_spec : {M : Type 1} → statement M
+run_sheet_spec = tie.close (tie.spec
+    slice-aggregate-run
+    run-requires
+    returns)

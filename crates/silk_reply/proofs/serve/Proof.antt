@@ -8,27 +8,27 @@ use Rattle.silk_reply.proofs.serve.Statement.{statement}
 use Rattle.silk_reply.proofs.serve.Tie as tie
 
 returns : tie.Need-returns
-returns c = c.before.before.before.before.respond.ensures
+returns c = c.before.before.before.before.respond-count.ensures
 
-read-full-requires : tie.Need-read-full-requires
+read-full-requires : tie.Need-read_full-n-requires
 read-full-requires c κs = search rules
 
-slice-aggregate-respond : tie.Need-slice-aggregate-respond
+slice-aggregate-respond : tie.Need-slice_bounds-respond-end
 slice-aggregate-respond c = search rules
 
-respond-requires : tie.Need-respond-requires
+respond-requires : tie.Need-respond-count-requires
 respond-requires c κs = search rules
 
-slice-aggregate-write-all : tie.Need-slice-aggregate-write-all
+slice-aggregate-write-all : tie.Need-slice_bounds-write_all-end
 slice-aggregate-write-all c =
-    let put = c.before.before.before.respond.ensures in
+    let put = c.before.before.before.respond-count.ensures in
     sym (length-take-le _ _ (omega (arith, put.0, within _ _ put.1)))
 
-write-all-requires : tie.Need-write-all-requires
+write-all-requires : tie.Need-write_all-written-requires
 write-all-requires c κs = search rules
 
-pub serve-spec : {M : Type 1} → statement M
-serve-spec =
+pub serve_spec : {M : Type 1} → statement M
+serve_spec =
     tie.close
     (tie.spec
     read-full-requires

@@ -4,19 +4,31 @@ use borrow.Author.Rules.{rules}
 use Rattle.vectors_c.proofs.replayed.Statement.{statement}
 use Rattle.vectors_c.proofs.replayed.Tie as tie
 
-abbrev invariant-loop : tie.invariant-loop
+abbrev invariant-loop : tie.invariant-loop-at
 invariant-loop entry name numbers count cases₀ differing₀ at₀ cases differing at = (cases ≤ at) × (differing ≤ at)
 
-abbrev decreases-loop : tie.decreases-loop
+abbrev decreases-loop : tie.decreases-loop-at
 decreases-loop entry name numbers count cases₀ differing₀ at₀ cases differing at = count - at
 
-pub replayed-spec : {M : Type 1} → statement M
-replayed-spec =
+pub replayed_spec : {M : Type 1} → statement M
+replayed_spec =
     tie.close
     (tie.spec
     invariant-loop
     decreases-loop
-    (search rules) (search rules) (search rules) (search rules)
-    (search rules) (search rules) (search rules) (search rules)
-    (search rules) (search rules) (search rules) (search rules)
-    (search rules) (search rules) (search rules) (search rules))
+    (search rules)
+    (search rules)
+    (search rules)
+    (search rules)
+    (search rules)
+    (search rules)
+    (search rules)
+    (search rules)
+    (search rules)
+    (search rules)
+    (search rules)
+    (search rules)
+    (search rules)
+    (search rules)
+    (search rules)
+    (search rules))

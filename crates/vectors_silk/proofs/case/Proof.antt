@@ -9,23 +9,23 @@ returns c =
     let third = c.before.before.before.before.before in
     let second = third.before.before.before in
     let first = second.before.before.before in
-    (lt_trans first.line.ensures.0.0 (lt_trans second.line2.ensures.0.0 third.line3.ensures.0.0), c.told.ensures)
+    (lt_trans first.line-first.ensures.0.0 (lt_trans second.line-second.ensures.0.0 third.line-third.ensures.0.0), c.told-differs.ensures)
 
-pub case-spec : {M : Type 1} → statement M
-case-spec =
+pub case_spec : {M : Type 1} → statement M
+case_spec =
     tie.close
     (tie.spec
-    (λ c. search rules)
     (search rules)
-    (λ c. search rules)
     (search rules)
-    (λ c. search rules)
     (search rules)
-    (λ c. search rules)
-    (λ c. search rules)
-    (λ c. search rules)
-    (λ c. search rules)
-    (λ c. search rules)
-    (λ c. search rules)
+    (search rules)
+    (search rules)
+    (search rules)
+    (search rules)
+    (search rules)
+    (search rules)
+    (search rules)
+    (search rules)
+    (search rules)
     (search rules)
     returns)

@@ -6,18 +6,26 @@ use lib.ListN.{length}
 use Rattle.vectors_silk.proofs.put_run.Statement.{statement}
 use Rattle.vectors_silk.proofs.put_run.Tie as tie
 
-abbrev invariant-loop : tie.invariant-loop
+abbrev invariant-loop : tie.invariant-loop-i
 invariant-loop buffer₀ from byte many count i₀ buffer i = length buffer ≡ length buffer₀
 
-abbrev decreases-loop : tie.decreases-loop
+abbrev decreases-loop : tie.decreases-loop-i
 decreases-loop buffer₀ from byte many count i₀ buffer i = count - i
 
-pub put-run-spec : {M : Type 1} → statement M
-put-run-spec =
+pub put_run_spec : {M : Type 1} → statement M
+put_run_spec =
     tie.close
     (tie.spec
     invariant-loop
     decreases-loop
-    (search rules) (search rules) (search rules) (search rules)
-    (search rules) (search rules) (search rules) (λ c. search rules)
-    (search rules) (search rules) (λ c. search rules))
+    (search rules)
+    (search rules)
+    (search rules)
+    (search rules)
+    (search rules)
+    (search rules)
+    (search rules)
+    (search rules)
+    (search rules)
+    (search rules)
+    (search rules))

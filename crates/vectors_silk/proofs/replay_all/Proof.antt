@@ -4,17 +4,23 @@ use borrow.Author.Rules.{rules}
 use Rattle.vectors_silk.proofs.replay_all.Statement.{statement}
 use Rattle.vectors_silk.proofs.replay_all.Tie as tie
 
-abbrev invariant-loop : tie.invariant-loop
+abbrev invariant-loop : tie.invariant-loop-at
 invariant-loop cases count number₀ differing₀ at₀ t7 number differing at = (number ≤ at) × (differing ≤ at)
 
-abbrev decreases-loop : tie.decreases-loop
+abbrev decreases-loop : tie.decreases-loop-at
 decreases-loop cases count number₀ differing₀ at₀ t7 number differing at = count - at
 
-pub replay-all-spec : {M : Type 1} → statement M
-replay-all-spec =
+pub replay_all_spec : {M : Type 1} → statement M
+replay_all_spec =
     tie.close
     (tie.spec
     invariant-loop
     decreases-loop
-    (search rules) (search rules) (search rules) (search rules) (search rules)
-    (search rules) (search rules) (search rules) (λ c. search rules))
+    (search rules)
+    (search rules)
+    (search rules)
+    (search rules)
+    (search rules)
+    (search rules)
+    (search rules)
+    (search rules))

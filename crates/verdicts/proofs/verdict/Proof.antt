@@ -21,22 +21,22 @@ use Rattle.verdicts.proofs.verdict.Tie as tie
 
 -- ---- places
 
-abbrev entered : tie.After-slice-known2 → tie.Start
+abbrev entered : tie.After-slice_known-2-1 → tie.Start
 entered c = c.before.before.before.before
 
-abbrev start : tie.After-region-span → tie.Start
+abbrev start : tie.After-region_span-span → tie.Start
 start c = entered c.before.before.before
 
-abbrev found : tie.Else2 → tie.After-region-span
+abbrev found : tie.Else-work-n-ne0-2 → tie.After-region_span-span
 found c = c.before.before.before.before
 
-abbrev asked : tie.Else3 → tie.Else2
+abbrev asked : tie.Else-not-large_around → tie.Else-work-n-ne0-2
 asked c = c.before.before.before
 
-abbrev told : tie.After-agreed → tie.Else3
+abbrev told : tie.After-agreed-voted → tie.Else-not-large_around
 told c = c.before.before.before
 
-abbrev polled : tie.After-poll → tie.Else4
+abbrev polled : tie.After-poll → tie.Else-voted-ne0
 polled c = c.before.before.before
 
 -- ---- the sizes
@@ -55,45 +55,45 @@ pub record Sizes (s : tie.Start) : Type 0 where
 sizes : (s : tie.Start) → Sizes s
 sizes s = let p = s.requires.0 in record { few = sheet-few p.0; room = p.0.room; label = p.1.label }
 
-mul-n : tie.Need-overflow-mul-n
+mul-n : tie.Need-overflow_mul-n
 mul-n c = omega (arith, sizes c.before.before.before)
 
-mul-if1 : tie.Need-overflow-mul-if1
+mul-if1 : tie.Need-overflow_mul-n-2
 mul-if1 c = omega (arith, sizes c.before.before.before)
 
-add-if1 : tie.Need-overflow-add-if1
+add-if1 : tie.Need-overflow_add-n
 add-if1 c = omega (arith, sizes c.before.before.before)
 
-mul-if1-2 : tie.Need-overflow-mul-if1-2
+mul-if1-2 : tie.Need-offset_bounds-work-n
 mul-if1-2 c = omega (arith, sizes c.before.before.before)
 
-slice-read-if1 : tie.Need-slice-read-if1
+slice-read-if1 : tie.Need-bounds-work-n
 slice-read-if1 c = omega (arith, sizes (entered c))
 
 -- what is read is the group's number
 number_is : (s : tie.Start) → get_or (work s) (6 * n s + s.args.at) 0 ≡ plane (n s) 6 (work s) s.args.at
 number_is s = plane_read (n s) 6 s.args.at (6 * n s + s.args.at) (work s) (omega arith)
 
-returns : tie.Need-returns
-returns c = let s = entered c.before in judged-done s.args.by s.args.palette.now s.pre.0.0 s.pre.1.1.0 s.pre.0.1 (λ e. c.if1.true (number_is s ∙ e))
+returns : tie.Need-returns-then-work-n-ne0
+returns c = let s = entered c.before in judged-done s.args.by s.args.palette.now s.requires.0.0 s.requires.1.1.0 s.requires.0.1 (λ e. c.if-work-n-ne0.true (number_is s ∙ e))
 
-region-span-requires : tie.Need-region-span-requires
-region-span-requires c κs = let s = entered c.before.before in let z = sizes s in (z.room, z.few, s.pre.0.1)
+region-span-requires : tie.Need-region_span-span-requires
+region-span-requires c κs = let s = entered c.before.before in let z = sizes s in (z.room, z.few, s.requires.0.1)
 
 -- ---- the places of the group
 
-abbrev span : tie.After-region-span → Span
-span c = c.region-span.result
+abbrev span : tie.After-region_span-span → Span
+span c = c.region_span-span.result
 
 -- the first of them, as it is read
-abbrev first : tie.After-region-span → ℕ
+abbrev first : tie.After-region_span-span → ℕ
 first c = get_or (work (start c)) (2 * n (start c) + (span c).from) 0
 
 -- and as it is
 abbrev lead : tie.Start → ℕ
 lead s = plane (n s) 2 (work s) (end_of (n s) (work s) s.args.at)
 
-pub record Run (c : tie.After-region-span) : Type 0 where
+pub record Run (c : tie.After-region_span-span) : Type 0 where
   pub sizes : Sizes (start c)
   pub stretch : Stretch (n (start c)) (work (start c)) (span c)
   pub some : (span c).from < (span c).to
@@ -101,11 +101,11 @@ pub record Run (c : tie.After-region-span) : Type 0 where
   pub is : first c ≡ lead (start c)
   pub first : first c < n (start c)
 
-run : (c : tie.After-region-span) → Run c
+run : (c : tie.After-region_span-span) → Run c
 run c =
     let s = start c in
-    let g = s.pre.0.1 in
-    let ends = c.region-span.ensures in
+    let g = s.requires.0.1 in
+    let ends = c.region_span-span.ensures in
     let e = plane_read (n s) 2 (span c).from (2 * n s + (span c).from) (work s) (omega arith) ∙ ap (plane (n s) 2 (work s)) ends.0 in
     let t : Stretch (n s) (work s) (span c) = group-stretch g ends in
     record {
@@ -117,154 +117,154 @@ run c =
       first = rw e (g.places (end_of (n s) (work s) s.args.at) (omega arith) g.some).0;
     }
 
-mul-first : tie.Need-overflow-mul-first
+mul-first : tie.Need-overflow_mul-first
 mul-first c = omega (arith, (run c).sizes)
 
-add-first : tie.Need-overflow-add-first
+add-first : tie.Need-overflow_add-first
 add-first c = let r = run c.before in omega (arith, r, r.sizes)
 
-mul-first-2 : tie.Need-overflow-mul-first-2
+mul-first-2 : tie.Need-offset_bounds-work-n-2
 mul-first-2 c = let r = run c.before in omega (arith, r, r.sizes)
 
-slice-read-first : tie.Need-slice-read-first
+slice-read-first : tie.Need-bounds-work-n-2
 slice-read-first c = let r = run c.before.before in omega (arith, r, r.sizes)
 
-cast-first : tie.Need-overflow-cast-first
+cast-first : tie.Need-overflow_cast-first
 cast-first c = let r = run c.before.before in omega (arith, r, r.sizes)
 
-mul-if2 : tie.Need-overflow-mul-if2
+mul-if2 : tie.Need-overflow_mul-n-3
 mul-if2 c = omega (arith, (run c.before.before).sizes)
 
-add-if2 : tie.Need-overflow-add-if2
+add-if2 : tie.Need-overflow_add-n-2
 add-if2 c = let r = run c.before.before in omega (arith, r, r.sizes)
 
-mul-if2-2 : tie.Need-overflow-mul-if2-2
+mul-if2-2 : tie.Need-offset_bounds-work-n-3
 mul-if2-2 c = let r = run c.before.before in omega (arith, r, r.sizes)
 
-slice-read-if2 : tie.Need-slice-read-if2
+slice-read-if2 : tie.Need-bounds-work-n-3
 slice-read-if2 c = let r = run c.before.before.before in omega (arith, r, r.sizes)
 
-same_length : tie.Need-same-length
+same_length : tie.Need-shape_of-work-then-work-n-ne0-2
 same_length c = search rules
 
 -- what is read is whether the first place is large
-large_is : (c : tie.After-region-span) → let s = start c in get_or (work s) (5 * n s + first c) 0 ≡ plane (n s) 5 (work s) (lead s)
+large_is : (c : tie.After-region_span-span) → let s = start c in get_or (work s) (5 * n s + first c) 0 ≡ plane (n s) 5 (work s) (lead s)
 large_is c = let s = start c in plane_read (n s) 5 (first c) (5 * n s + first c) (work s) (omega arith) ∙ ap (plane (n s) 5 (work s)) (run c).is
 
-returns-2 : tie.Need-returns-2
+returns-2 : tie.Need-returns-then-work-n-ne0-2
 returns-2 c =
     let e = c.before.before.before.before in
     let s = start e in
-    judged_big s.args.by s.args.palette.now s.pre.0.0 s.pre.1.1.0 s.pre.0.1 (λ z. c.if2.true (large_is e ∙ z))
+    judged_big s.args.by s.args.palette.now s.requires.0.0 s.requires.1.1.0 s.requires.0.1 (λ z. c.if-work-n-ne0-2.true (large_is e ∙ z))
 
 -- the group has no number, and its first place is not large
-pub record Open (c : tie.Else2) : Type 0 where
+pub record Open (c : tie.Else-work-n-ne0-2) : Type 0 where
   pub free : let s = start (found c) in plane (n s) 6 (work s) s.args.at ≡ 0
   pub little : let s = start (found c) in plane (n s) 5 (work s) (lead s) ≡ 0
   pub fresh : let s = start (found c) in (q : ℕ) → q < n s → plane (n s) 5 (work s) q ≡ s.args.at + 2 → ⊥
 
-waiting : (c : tie.Else2) → Open c
+waiting : (c : tie.Else-work-n-ne0-2) → Open c
 waiting c =
     let e = found c in
     let s = start e in
-    let z = sym (number_is s) ∙ e.before.before.if1.left in
-    record { free = z; little = sym (large_is e) ∙ c.if2.false; fresh = s.pre.1.1.1 z }
+    let z = sym (number_is s) ∙ e.before.before.if-work-n-ne0.false in
+    record { free = z; little = sym (large_is e) ∙ c.if-work-n-ne0-2.false; fresh = s.requires.1.1.1 z }
 
-large-around-requires : tie.Need-large-around-requires
-large-around-requires c κs = let e = found c.before in let r = run e in (r.sizes.room, r.sizes.few, (start e).pre.0.0.cols, r.stretch)
+large-around-requires : tie.Need-large_around-requires
+large-around-requires c κs = let e = found c.before in let r = run e in (r.sizes.room, r.sizes.few, (start e).requires.0.0.cols, r.stretch)
 
-same-length-2 : tie.Need-same-length-2
+same-length-2 : tie.Need-shape_of-work-then-not-large_around
 same-length-2 c = search rules
 
-returns-3 : tie.Need-returns-3
+returns-3 : tie.Need-returns-then-not-large_around
 returns-3 c =
     let v = c.before in
     let o = v.before.before in
     let e = found o in
     let s = start e in
     let u = waiting o in
-    judged_silent s.args.by s.args.palette.now s.pre.0.0 s.pre.1.1.0 s.pre.0.1 (span e) e.region-span.ensures u.free u.little s.pre.1.0.0 u.fresh (v.large-around.ensures (not_true v.large-around.result c.if3.true))
+    judged_silent s.args.by s.args.palette.now s.requires.0.0 s.requires.1.1.0 s.requires.0.1 (span e) e.region_span-span.ensures u.free u.little s.requires.1.0.0 u.fresh (v.large_around.ensures (not_true v.large_around.result c.if-not-large_around.true))
 
 -- the first place's paint, as it is read
-abbrev own : tie.After-region-span → ℕ
+abbrev own : tie.After-region_span-span → ℕ
 own c = get_or (work (start c)) (first c) 0
 
-pub record Paint (c : tie.After-region-span) : Type 0 where
+pub record Paint (c : tie.After-region_span-span) : Type 0 where
   pub is : own c ≡ plane (n (start c)) 0 (work (start c)) (lead (start c))
   pub some : 1 ≤ own c
   pub most : own c ≤ (start c).args.by.k
   pub few : (start c).args.by.k ≤ 256
 
-paint : (c : tie.After-region-span) → Paint c
+paint : (c : tie.After-region_span-span) → Paint c
 paint c =
     let s = start c in
-    let g = s.pre.0.1 in
-    let known = s.pre.1.0.0 in
+    let g = s.requires.0.1 in
+    let known = s.requires.1.0.0 in
     let p = g.places (end_of (n s) (work s) s.args.at) (omega arith) g.some in
     let e = plane_read (n s) 0 (first c) (first c) (work s) (omega arith) ∙ ap (plane (n s) 0 (work s)) (run c).is in
     record {
       is = e;
-      some = rw e (s.pre.0.0.shown (lead s) p.0 (λ z. let x : suc s.args.at ≡ 0 = sym p.1 ∙ z in omega arith));
+      some = rw e (s.requires.0.0.shown (lead s) p.0 (λ z. let x : suc s.args.at ≡ 0 = sym p.1 ∙ z in omega arith));
       most = rw e (known.below (lead s) p.0);
       few = known.few;
     }
 
-mul-own : tie.Need-overflow-mul-own
+mul-own : tie.Need-offset_bounds-work-first
 mul-own c = let r = run (found (asked c)) in omega (arith, r, r.sizes)
 
-slice-read-own : tie.Need-slice-read-own
+slice-read-own : tie.Need-bounds-work-first
 slice-read-own c = let r = run (found (asked c.before)) in omega (arith, r, r.sizes)
 
-cast-own : tie.Need-overflow-cast-own
+cast-own : tie.Need-overflow_cast-own
 cast-own c = omega (arith, paint (found (asked c.before)))
 
-sub-own : tie.Need-overflow-sub-own
+sub-own : tie.Need-overflow_sub-own
 sub-own c = omega (arith, paint (found (asked c.before)))
 
 -- ---- all large neighbours have one paint
 
-agreed-requires : tie.Need-agreed-requires
-agreed-requires c κs = let e = found (asked c.before.before) in ((start e).pre.0.0, (run e).stretch)
+agreed-requires : tie.Need-agreed-voted-requires
+agreed-requires c κs = let e = found (asked c.before.before) in ((start e).requires.0.0, (run e).stretch)
 
-cast-voted : tie.Need-overflow-cast-voted
+cast-voted : tie.Need-overflow_cast-voted
 cast-voted c = search rules
 
-one : (c : tie.Then4) → let e = found (asked (told c.before)) in OnePaint (start e).args.grid (work (start e)) (span e).from (span e).to c.before.agreed.result
+one : (c : tie.Then-voted-ne0) → let e = found (asked (told c.before)) in OnePaint (start e).args.grid (work (start e)) (span e).from (span e).to c.before.agreed-voted.result
 one c =
     let e = found (asked (told c.before)) in
     let s = start e in
-    one_paint_lem s.args.grid (work s) s.pre.0.0 (span e).from (span e).to c.before.agreed.result (run e).stretch.rises c.before.agreed.ensures c.if4.true
+    one_paint_lem s.args.grid (work s) s.requires.0.0 (span e).from (span e).to c.before.agreed-voted.result (run e).stretch.rises c.before.agreed-voted.ensures c.if-voted-ne0.true
 
-returns-4 : tie.Need-returns-4
+returns-4 : tie.Need-returns-then-voted-ne0
 returns-4 c =
     let o = asked (told c.before.before) in
     let e = found o in
     let s = start e in
     let u = waiting o in
-    judged_agreed s.args.by s.args.palette.now s.pre.0.0 s.pre.1.1.0 s.pre.0.1 (span e) e.region-span.ensures u.free u.little s.pre.1.0.0 (one c.before) (paint e).is c.only-choice.ensures
+    judged_agreed s.args.by s.args.palette.now s.requires.0.0 s.requires.1.1.0 s.requires.0.1 (span e) e.region_span-span.ensures u.free u.little s.requires.1.0.0 (one c.before) (paint e).is c.only_choice.ensures
 
 -- it is that of a place
-paint_below : (c : tie.Then4) → c.before.agreed.result ≤ (start (found (asked (told c.before)))).args.by.k
-paint_below c = let s = start (found (asked (told c.before))) in let o = one c in omega (arith, o.same o.place o.inside o.beside o.big, s.pre.1.0.0.below o.place o.inside)
+paint_below : (c : tie.Then-voted-ne0) → c.before.agreed-voted.result ≤ (start (found (asked (told c.before)))).args.by.k
+paint_below c = let s = start (found (asked (told c.before))) in let o = one c in omega (arith, o.same o.place o.inside o.beside o.big, s.requires.1.0.0.below o.place o.inside)
 
-sub-c : tie.Need-overflow-sub-c
-sub-c c = omega (arith, c.if4.true)
+sub-c : tie.Need-overflow_sub-c
+sub-c c = omega (arith, c.if-voted-ne0.true)
 
-only-choice-requires : tie.Need-only-choice-requires
+only-choice-requires : tie.Need-only_choice-requires
 only-choice-requires c κs =
     let e = found (asked (told c.before)) in
     let p = paint e in
-    (omega (arith, p), omega (arith, paint_below c, p.few, c.if4.true), (start e).pre.1.0.1)
+    (omega (arith, p), omega (arith, paint_below c, p.few, c.if-voted-ne0.true), (start e).requires.1.0.1)
 
-same-length-3 : tie.Need-same-length-3
+same-length-3 : tie.Need-shape_of-work-then-voted-ne0
 same-length-3 c = search rules
 
 -- ---- else they are polled
 
-cast-mark : tie.Need-overflow-cast-mark
+cast-mark : tie.Need-overflow_cast-mark
 cast-mark c = omega (arith, (run (found (asked (told c.before)))).sizes)
 
-add-mark : tie.Need-overflow-add-mark
+add-mark : tie.Need-overflow_add-mark
 add-mark c = omega (arith, (run (found (asked (told c.before)))).sizes)
 
 poll-requires : tie.Need-poll-requires
@@ -272,31 +272,31 @@ poll-requires c κs =
     let o = asked (told c.before.before.before) in
     let e = found o in
     let s = start e in
-    ((s.pre.0.0, (run e).stretch, omega arith), tally_new (n s) (s.args.at + 2) (work s) (waiting o).fresh)
+    ((s.requires.0.0, (run e).stretch, omega arith), tally_new (n s) (s.args.at + 2) (work s) (waiting o).fresh)
 
-abbrev counted : tie.After-counts2 → tie.After-poll
+abbrev counted : tie.After-counts-2-1 → tie.After-poll
 counted c = c.before.before.before
 
 choice-requires : tie.Need-choice-requires
 choice-requires c κs =
     let e = found (asked (told (polled (counted c)).before)) in
     let p = paint e in
-    (p.few, omega (arith, p), (start e).pre.1.0.1)
+    (p.few, omega (arith, p), (start e).requires.1.0.1)
 
-same-length-4 : tie.Need-same-length-4
+same-length-4 : tie.Need-shape_of-work
 same-length-4 c = search rules
 
-returns-5 : tie.Need-returns-5
+returns-5 : tie.Need-returns
 returns-5 c =
     let k = counted c.before in
     let o = asked (told (polled k).before) in
     let e = found o in
     let s = start e in
     let u = waiting o in
-    judged_polled s.args.by s.args.palette.now s.pre.0.0 s.pre.1.1.0 s.pre.0.1 (span e) e.region-span.ensures u.free u.little s.pre.1.0.0 u.fresh k.poll.ensures (paint e).is c.choice.ensures
+    judged_polled s.args.by s.args.palette.now s.requires.0.0 s.requires.1.1.0 s.requires.0.1 (span e) e.region_span-span.ensures u.free u.little s.requires.1.0.0 u.fresh k.poll.ensures (paint e).is c.choice.ensures
 
-pub verdict-spec : {M : Type 1} → statement M
-verdict-spec =
+pub verdict_spec : {M : Type 1} → statement M
+verdict_spec =
     tie.close
     (tie.spec
     mul-n

@@ -8,5 +8,6 @@ returns : tie.Need-returns
 unfolding dist2
 returns c = refl
 
-pub dist2-spec : {M : Type 1} → statement M
-dist2-spec = tie.close (tie.spec returns)
+pub dist2_spec : {M : Type 1} → statement M
+dist2_spec = tie.close (tie.spec
+    returns)

@@ -16,5 +16,8 @@ returns : tie.Need-returns
 unfolding distance
 returns c = c.sqrt.ensures.equal ∙ ap sqrt_of c.before.dist2.ensures
 
-pub distance-spec : {M : Type 1} → statement M
-distance-spec = tie.close (tie.spec dist2-requires sqrt-requires returns)
+pub distance_spec : {M : Type 1} → statement M
+distance_spec = tie.close (tie.spec
+    dist2-requires
+    sqrt-requires
+    returns)

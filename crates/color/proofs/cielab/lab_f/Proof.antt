@@ -9,13 +9,16 @@ use Rattle.color.proofs.cielab.lab_f.Tie as tie
 cbrt-requires : tie.Need-cbrt-requires
 cbrt-requires c κs = search rules
 
-returns : tie.Need-returns
+returns : tie.Need-returns-then-t
 unfolding lab_f edge decimal round of_bits
-returns c = rw c.before.if1.true c.cbrt.ensures.equal
+returns c = rw c.before.if-t.true c.cbrt.ensures.equal
 
-returns-2 : tie.Need-returns-2
+returns-2 : tie.Need-returns-else-t
 unfolding lab_f edge slope shift decimal round of_bits div
-returns-2 c = rw c.if1.false
+returns-2 c = rw c.if-t.false
 
-pub lab-f-spec : {M : Type 1} → statement M
-lab-f-spec = tie.close (tie.spec cbrt-requires returns returns-2)
+pub lab_f_spec : {M : Type 1} → statement M
+lab_f_spec = tie.close (tie.spec
+    cbrt-requires
+    returns
+    returns-2)

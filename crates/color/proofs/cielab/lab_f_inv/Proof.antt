@@ -5,13 +5,15 @@ use Rattle.color.specs.Lab.{edge_inv, slope, shift, lab_f_inv}
 use Rattle.color.proofs.cielab.lab_f_inv.Statement.{statement}
 use Rattle.color.proofs.cielab.lab_f_inv.Tie as tie
 
-returns : tie.Need-returns
+returns : tie.Need-returns-then-t
 unfolding lab_f_inv edge_inv decimal round of_bits
-returns c = rw c.if1.true
+returns c = rw c.if-t.true
 
-returns-2 : tie.Need-returns-2
+returns-2 : tie.Need-returns-else-t
 unfolding lab_f_inv edge_inv slope shift decimal round of_bits div
-returns-2 c = rw c.if1.false
+returns-2 c = rw c.if-t.false
 
-pub lab-f-inv-spec : {M : Type 1} → statement M
-lab-f-inv-spec = tie.close (tie.spec returns returns-2)
+pub lab_f_inv_spec : {M : Type 1} → statement M
+lab_f_inv_spec = tie.close (tie.spec
+    returns
+    returns-2)

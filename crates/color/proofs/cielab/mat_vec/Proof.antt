@@ -4,13 +4,13 @@ use borrow.Author.Rules.{rules}
 use Rattle.color.proofs.cielab.mat_vec.Statement.{statement}
 use Rattle.color.proofs.cielab.mat_vec.Tie as tie
 
-array-copy-out-x : tie.Need-array-copy-out-x
+array-copy-out-x : tie.Need-bounds-m-0
 array-copy-out-x c = search rules
 
-array-copy-out-y : tie.Need-array-copy-out-y
+array-copy-out-y : tie.Need-bounds-m-1
 array-copy-out-y c = search rules
 
-array-copy-out-z : tie.Need-array-copy-out-z
+array-copy-out-z : tie.Need-bounds-m-2
 array-copy-out-z c = search rules
 
 dot-requires : tie.Need-dot-requires
@@ -26,8 +26,8 @@ returns : tie.Need-returns
 unfolding mat_vec
 returns c = cc
 
-pub mat-vec-spec : {M : Type 1} → statement M
-mat-vec-spec =
+pub mat_vec_spec : {M : Type 1} → statement M
+mat_vec_spec =
     tie.close
     (tie.spec
     array-copy-out-x

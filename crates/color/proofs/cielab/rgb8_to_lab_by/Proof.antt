@@ -15,18 +15,18 @@ decoded-requires-2 c κs = search rules
 decoded-requires-3 : tie.Need-decoded-requires-3
 decoded-requires-3 c κs = search rules
 
-mat-vec-requires : tie.Need-mat-vec-requires
+mat-vec-requires : tie.Need-mat_vec-requires
 mat-vec-requires c κs = search rules
 
-lab-of-xyz-requires : tie.Need-lab-of-xyz-requires
+lab-of-xyz-requires : tie.Need-lab_of_xyz-requires
 lab-of-xyz-requires c κs = search rules
 
 returns : tie.Need-returns
 unfolding rgb8_to_lab xyz_from_rgb decimal round of_bits
 returns c = cc
 
-pub rgb8-to-lab-by-spec : {M : Type 1} → statement M
-rgb8-to-lab-by-spec =
+pub rgb8_to_lab_by_spec : {M : Type 1} → statement M
+rgb8_to_lab_by_spec =
     tie.close
     (tie.spec
     decoded-requires

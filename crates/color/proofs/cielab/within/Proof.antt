@@ -5,13 +5,15 @@ use Rattle.color.specs.Lab.{within}
 use Rattle.color.proofs.cielab.within.Statement.{statement}
 use Rattle.color.proofs.cielab.within.Tie as tie
 
-returns : tie.Need-returns
+returns : tie.Need-returns-then-x
 unfolding within decimal round of_bits neg
-returns c = rw c.if1.true
+returns c = rw c.if-x.true
 
-returns-2 : tie.Need-returns-2
+returns-2 : tie.Need-returns-else-x
 unfolding within decimal round of_bits neg
-returns-2 c = rw c.if1.false
+returns-2 c = rw c.if-x.false
 
-pub within-spec : {M : Type 1} → statement M
-within-spec = tie.close (tie.spec returns returns-2)
+pub within_spec : {M : Type 1} → statement M
+within_spec = tie.close (tie.spec
+    returns
+    returns-2)

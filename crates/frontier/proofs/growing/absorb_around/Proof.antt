@@ -12,99 +12,99 @@ use Rattle.frontier.proofs.Gains.{gained_start, gained_same, gained_trans, match
 use Rattle.frontier.proofs.growing.absorb_around.Statement.{statement}
 use Rattle.frontier.proofs.growing.absorb_around.Tie as tie
 
-abbrev invariant-loop : tie.invariant-loop
+abbrev invariant-loop : tie.invariant-loop-i
 invariant-loop work₀ grid at from n end₀ i₀ i-end work end i = Gained grid (λ q. Within i₀ i (λ j. Matches grid work₀ (plane (area_of grid) 2 work₀ j) q)) work₀ work from end × (i₀ ≤ i) × (i ≤ i-end)
 
-abbrev decreases-loop : tie.decreases-loop
+abbrev decreases-loop : tie.decreases-loop-i
 decreases-loop work₀ grid at from n end₀ i₀ i-end work end i = i-end - i
 
-mul-n : tie.Need-overflow-mul-n invariant-loop decreases-loop
+mul-n : tie.Need-overflow_mul-n invariant-loop decreases-loop
 mul-n c = omega (arith, sheet-few c.before.before.requires.0.sheet)
 
-region-span-requires : tie.Need-region-span-requires invariant-loop decreases-loop
+region-span-requires : tie.Need-region_span-span-requires invariant-loop decreases-loop
 region-span-requires c κs = let s = c.before.before.before in let b = s.requires.0.sheet in (b.room, sheet-few b, s.requires.1)
 
-abbrev start : tie.After-region-span invariant-loop decreases-loop → tie.Start invariant-loop decreases-loop
+abbrev start : tie.After-region_span-span invariant-loop decreases-loop → tie.Start invariant-loop decreases-loop
 start c = c.before.before.before.before
 
-loop-holds : tie.Need-loop-init invariant-loop decreases-loop
+loop-holds : tie.Need-loop-i-init invariant-loop decreases-loop
 loop-holds c =
     let s = start c in
-    (gained_start _ _ _ _ s.pre.0 (λ q l y w. let f = y.1 in let g = y.2 in absurd (omega arith)), omega arith, (group-stretch s.pre.1 c.region-span.ensures).rises)
+    (gained_start _ _ _ _ s.requires.0 (λ q l y w. let f = y.1 in let g = y.2 in absurd (omega arith)), omega arith, (group-stretch s.requires.1 c.region_span-span.ensures).rises)
 
 -- the call that a turn belongs to
-abbrev ran : tie.In-loop invariant-loop decreases-loop → tie.Start invariant-loop decreases-loop
+abbrev ran : tie.In-loop-i invariant-loop decreases-loop → tie.Start invariant-loop decreases-loop
 ran c = start c.before.before
 
 -- what is read is a place of the group
-turn : (c : tie.In-loop invariant-loop decreases-loop) → SpanTurn (area_of (ran c).args.grid) c.before.loop.i c.before.before.region-span.result (ran c).args.work.now c.before.loop.work
+turn : (c : tie.In-loop-i invariant-loop decreases-loop) → SpanTurn (area_of (ran c).args.grid) c.before.loop-i.i c.before.before.region_span-span.result (ran c).args.work.now c.before.loop-i.work
 turn c =
     let s = ran c in
-    let b = s.pre.0.sheet in
-    let u = c.before.loop.invariant in
-    span_turn (sheet-few b) b.room (group-stretch s.pre.1 c.before.before.region-span.ensures) u.0.len
-    (λ q l. u.0.same 2 q (λ z. absurd (omega arith)) (λ z. absurd (omega arith)) l) u.1 c.loop-test.true
+    let b = s.requires.0.sheet in
+    let u = c.before.loop-i.invariant in
+    span_turn (sheet-few b) b.room (group-stretch s.requires.1 c.before.before.region_span-span.ensures) u.0.len
+    (λ q l. u.0.same 2 q (λ z. absurd (omega arith)) (λ z. absurd (omega arith)) l) u.1 c.loop-i-test.true
 
-mul-p : tie.Need-overflow-mul-p invariant-loop decreases-loop
+mul-p : tie.Need-overflow_mul-p invariant-loop decreases-loop
 mul-p c = omega (arith, turn c)
 
-add-p : tie.Need-overflow-add-p invariant-loop decreases-loop
+add-p : tie.Need-overflow_add-p invariant-loop decreases-loop
 add-p c = omega (arith, turn c)
 
-mul-p-2 : tie.Need-overflow-mul-p-2 invariant-loop decreases-loop
+mul-p-2 : tie.Need-offset_bounds-work-n invariant-loop decreases-loop
 mul-p-2 c = omega (arith, turn c)
 
-slice-read-p : tie.Need-slice-read-p invariant-loop decreases-loop
+slice-read-p : tie.Need-bounds-work-n invariant-loop decreases-loop
 slice-read-p c = omega (arith, turn c.before)
 
-cast-p : tie.Need-overflow-cast-p invariant-loop decreases-loop
+cast-p : tie.Need-overflow_cast-p invariant-loop decreases-loop
 cast-p c = omega (arith, turn c.before)
 
-absorb-beside-requires : tie.Need-absorb-beside-requires invariant-loop decreases-loop
-absorb-beside-requires c κs = let i = c.before.before in (i.before.loop.invariant.0.growth, (turn i).place)
+absorb-beside-requires : tie.Need-absorb_beside-end-requires invariant-loop decreases-loop
+absorb-beside-requires c κs = let i = c.before.before in (i.before.loop-i.invariant.0.growth, (turn i).place)
 
-abbrev turned : tie.After-absorb-beside invariant-loop decreases-loop → tie.In-loop invariant-loop decreases-loop
+abbrev turned : tie.After-absorb_beside-end invariant-loop decreases-loop → tie.In-loop-i invariant-loop decreases-loop
 turned c = c.before.before.before
 
-add-i : tie.Need-overflow-add-i invariant-loop decreases-loop
+add-i : tie.Need-overflow_step-i invariant-loop decreases-loop
 add-i c = omega (arith, turn (turned c.before.before))
 
-loop-less : tie.Need-loop-smaller invariant-loop decreases-loop
+loop-less : tie.Need-loop-i-smaller invariant-loop decreases-loop
 loop-less c = omega (arith, turn (turned c.before.before))
 
-loop-again : tie.Need-loop-preserved invariant-loop decreases-loop
+loop-again : tie.Need-loop-i-preserved invariant-loop decreases-loop
 loop-again c =
     let j = c.before.before in
     let i = turned j in
     let s = ran i in
-    let u = i.before.loop.inv in
+    let u = i.before.loop-i.invariant in
     let b = turn i in
-    let p = plane (area_of s.args.grid) 2 s.args.work.now i.before.loop.i in
+    let p = plane (area_of s.args.grid) 2 s.args.work.now i.before.loop-i.i in
     let lp : p < area_of s.args.grid = rw b.is at b.place in (
       gained_same
           (λ q l. ⊎_elim (λ z. more_within u.1 (inl z)) (λ z. more_within u.1 (inr (matches_was u.0 p q lp l z))))
           (λ q l z. ⊎_elim inl (λ y. inr (matches_now u.0 p q lp l y)) (within_more z))
-          (gained_trans u.0 (rw b.is at j.absorb-beside.ensures)),
+          (gained_trans u.0 (rw b.is at j.absorb_beside-end.ensures)),
       omega (arith, u.1),
       omega (arith, b.turn),
     )
 
-same_length : tie.Need-same-length invariant-loop decreases-loop
-same_length c = c.before.loop.invariant.0.len
+same_length : tie.Need-shape_of-work invariant-loop decreases-loop
+same_length c = c.before.loop-i.invariant.0.len
 
 returns : tie.Need-returns invariant-loop decreases-loop
 returns c =
     let e = c.before.before in
     let s = start e in
-    let u = c.before.loop.invariant in
-    let ends = e.region-span.ensures in
+    let u = c.before.loop-i.invariant in
+    let ends = e.region_span-span.ensures in
     gained_same
-    (λ q l z. within-group (λ p. Matches s.args.grid s.args.work.now p q) s.pre.1 ends u.2 z)
-    (λ q l z. group-within (λ p. Matches s.args.grid s.args.work.now p q) s.pre.1 ends c.loop-test.false z)
+    (λ q l z. within-group (λ p. Matches s.args.grid s.args.work.now p q) s.requires.1 ends u.2 z)
+    (λ q l z. group-within (λ p. Matches s.args.grid s.args.work.now p q) s.requires.1 ends c.loop-i-test.false z)
     u.0
 
-pub absorb-around-spec : {M : Type 1} → statement M
-absorb-around-spec =
+pub absorb_around_spec : {M : Type 1} → statement M
+absorb_around_spec =
     tie.close
     (tie.spec
     invariant-loop

@@ -24,10 +24,10 @@ use Rattle.frontier.proofs.growing.absorb_beside.Tie as tie
 abbrev Near : Grid → List ℕ → ℕ → ℕ → ℕ → Type 0
 Near grid a p s q = Reached grid p s q × (plane (area_of grid) 0 a q ≡ plane (area_of grid) 0 a p)
 
-abbrev invariant-loop : tie.invariant-loop
+abbrev invariant-loop : tie.invariant-loop-s
 invariant-loop work₀ grid p from n paint border offsets steps end₀ s₀ work end s = Gained grid (Near grid work₀ p s) work₀ work from end × (s ≤ grid.steps)
 
-abbrev decreases-loop : tie.decreases-loop
+abbrev decreases-loop : tie.decreases-loop-s
 decreases-loop work₀ grid p from n paint border offsets steps end₀ s₀ work end s = 8 - s
 
 pub record Sizes (s : tie.Start invariant-loop decreases-loop) : Type 0 where
@@ -38,132 +38,132 @@ pub record Sizes (s : tie.Start invariant-loop decreases-loop) : Type 0 where
 sizes : (s : tie.Start invariant-loop decreases-loop) → Sizes s
 sizes s = let b = s.requires.0.sheet in record { few = sheet-few b; room = b.room; inside = s.requires.1 }
 
-mul-n : tie.Need-overflow-mul-n invariant-loop decreases-loop
+mul-n : tie.Need-overflow_mul-n invariant-loop decreases-loop
 mul-n c = omega (arith, sizes c.before.before)
 
-mul-paint : tie.Need-overflow-mul-paint invariant-loop decreases-loop
+mul-paint : tie.Need-offset_bounds-work-p invariant-loop decreases-loop
 mul-paint c = omega (arith, sizes c.before.before)
 
-abbrev entered : tie.After-slice-known2 invariant-loop decreases-loop → tie.Start invariant-loop decreases-loop
+abbrev entered : tie.After-slice_known-2-1 invariant-loop decreases-loop → tie.Start invariant-loop decreases-loop
 entered c = c.before.before.before
 
-slice-read-paint : tie.Need-slice-read-paint invariant-loop decreases-loop
+slice-read-paint : tie.Need-bounds-work-p invariant-loop decreases-loop
 slice-read-paint c = omega (arith, sizes (entered c))
 
 -- what is read is the place's paint
 paint_is : (s : tie.Start invariant-loop decreases-loop) → get_or s.args.work.now s.args.p 0 ≡ plane (area_of s.args.grid) 0 s.args.work.now s.args.p
 paint_is s = plane_read (area_of s.args.grid) 0 s.args.p s.args.p s.args.work.now (omega arith)
 
-small-near-requires : tie.Need-small-near-requires invariant-loop decreases-loop
-small-near-requires c κs = let s = entered c.before in let z = sizes s in (z.room, z.few, s.pre.0.sheet.cols, z.inside)
+small-near-requires : tie.Need-small_near-requires invariant-loop decreases-loop
+small-near-requires c κs = let s = entered c.before in let z = sizes s in (z.room, z.few, s.requires.0.sheet.cols, z.inside)
 
-abbrev start : tie.After-small-near invariant-loop decreases-loop → tie.Start invariant-loop decreases-loop
+abbrev start : tie.After-small_near invariant-loop decreases-loop → tie.Start invariant-loop decreases-loop
 start c = entered c.before.before
 
-same_length : tie.Need-same-length invariant-loop decreases-loop
+same_length : tie.Need-shape_of-work-then-not-small_near invariant-loop decreases-loop
 same_length c = search rules
 
-returns : tie.Need-returns invariant-loop decreases-loop
+returns : tie.Need-returns-then-not-small_near invariant-loop decreases-loop
 returns c =
     let s = start c.before in
-    gained_none s.args.grid s.args.from _ s.args.work.now s.pre.0
-    (λ q l z y. c.before.small-near.ensures (not_true c.if1.true) q (neighbours_in s.args.grid s.pre.0.sheet.ways s.args.p q l z.0) (z.1 ∙ sym (paint_is s)))
+    gained_none s.args.grid s.args.from _ s.args.work.now s.requires.0
+    (λ q l z y. c.before.small_near.ensures (not_true c.if-not-small_near.true) q (neighbours_in s.args.grid s.requires.0.sheet.ways s.args.p q l z.0) (z.1 ∙ sym (paint_is s)))
 
-on-edge-requires : tie.Need-on-edge-requires invariant-loop decreases-loop
-on-edge-requires c κs = let s = start c.before in (s.pre.1, s.pre.0.sheet.rows, s.pre.0.sheet.cols)
+on-edge-requires : tie.Need-on_edge-border-requires invariant-loop decreases-loop
+on-edge-requires c κs = let s = start c.before in (s.requires.1, s.requires.0.sheet.rows, s.requires.0.sheet.cols)
 
-abbrev begun : tie.After-on-edge invariant-loop decreases-loop → tie.Start invariant-loop decreases-loop
+abbrev begun : tie.After-on_edge-border invariant-loop decreases-loop → tie.Start invariant-loop decreases-loop
 begun c = start c.before.before
 
-step-count-requires : tie.Need-step-count-requires invariant-loop decreases-loop
+step-count-requires : tie.Need-step_count-steps-requires invariant-loop decreases-loop
 step-count-requires c κs = (begun c).requires.0.sheet.ways
 
-loop-holds : tie.Need-loop-init invariant-loop decreases-loop
+loop-holds : tie.Need-loop-s-init invariant-loop decreases-loop
 loop-holds c =
     let s = begun c.before in
-    (gained_start s.args.grid s.args.from (Near s.args.grid s.args.work.now s.args.p 0) s.args.work.now s.pre.0 (λ q l z y. let n = z.0.1 in absurd (omega arith)), omega arith)
+    (gained_start s.args.grid s.args.from (Near s.args.grid s.args.work.now s.args.p 0) s.args.work.now s.requires.0 (λ q l z y. let n = z.0.1 in absurd (omega arith)), omega arith)
 
 -- the call that a walk belongs to
-abbrev ran : tie.At-loop invariant-loop decreases-loop → tie.Start invariant-loop decreases-loop
+abbrev ran : tie.At-loop-s invariant-loop decreases-loop → tie.Start invariant-loop decreases-loop
 ran c = begun c.before.before
 
 -- the walk that a turn belongs to
-abbrev walked : tie.Else2 invariant-loop decreases-loop → tie.At-loop invariant-loop decreases-loop
+abbrev walked : tie.Else-s-steps invariant-loop decreases-loop → tie.At-loop-s invariant-loop decreases-loop
 walked c = c.before.before
 
 -- the step in turn
-walk : (c : tie.Else2 invariant-loop decreases-loop) → let a = walked c in WalkTurn (ran a).args.grid (ran a).args.p a.loop.s a.before.before.on_edge.result
+walk : (c : tie.Else-s-steps invariant-loop decreases-loop) → let a = walked c in WalkTurn (ran a).args.grid (ran a).args.p a.loop-s.s a.before.before.on_edge-border.result
 walk c =
     let a = walked c in
     let s = ran a in
-    walk_turn s.pre.0.sheet s.pre.1 a.before.before.on_edge.ensures (omega (arith, a.loop.inv.1, c.if2.false, a.before.step_count.ensures))
+    walk_turn s.requires.0.sheet s.requires.1 a.before.before.on_edge-border.ensures (omega (arith, a.loop-s.invariant.1, c.if-s-steps.false, a.before.step_count-steps.ensures))
 
-mul-o : tie.Need-overflow-mul-o invariant-loop decreases-loop
+mul-o : tie.Need-offset_bounds-offsets-s invariant-loop decreases-loop
 mul-o c = omega (arith, (walk c).few)
 
-array-copy-out-o : tie.Need-array-copy-out-o invariant-loop decreases-loop
+array-copy-out-o : tie.Need-bounds-offsets-s invariant-loop decreases-loop
 array-copy-out-o c = omega (arith, (walk c).few)
 
-array-copy-out-dy : tie.Need-array-copy-out-dy invariant-loop decreases-loop
+array-copy-out-dy : tie.Need-bounds-o-0 invariant-loop decreases-loop
 array-copy-out-dy c = search rules
 
-array-copy-out-dx : tie.Need-array-copy-out-dx invariant-loop decreases-loop
+array-copy-out-dx : tie.Need-bounds-o-1 invariant-loop decreases-loop
 array-copy-out-dx c = search rules
 
-abbrev turn : tie.After-absorb-arg invariant-loop decreases-loop → tie.Else2 invariant-loop decreases-loop
+abbrev turn : tie.After-absorb-arg-1 invariant-loop decreases-loop → tie.Else-s-steps invariant-loop decreases-loop
 turn c = c.before.before.before.before
 
-absorb-requires : tie.Need-absorb-requires invariant-loop decreases-loop
-absorb-requires c κs = let i = turn c in ((walked i).loop.inv.0.growth, (walk i).one)
+absorb-requires : tie.Need-absorb-end-requires invariant-loop decreases-loop
+absorb-requires c κs = let i = turn c in ((walked i).loop-s.invariant.0.growth, (walk i).one)
 
-abbrev turned : tie.After-absorb invariant-loop decreases-loop → tie.Else2 invariant-loop decreases-loop
+abbrev turned : tie.After-absorb-end invariant-loop decreases-loop → tie.Else-s-steps invariant-loop decreases-loop
 turned c = turn c.before
 
-add-s : tie.Need-overflow-add-s invariant-loop decreases-loop
+add-s : tie.Need-overflow_step-s invariant-loop decreases-loop
 add-s c = omega (arith, (walk (turned c.before.before)).few)
 
-loop-less : tie.Need-loop-smaller invariant-loop decreases-loop
+loop-less : tie.Need-loop-s-smaller invariant-loop decreases-loop
 loop-less c = omega (arith, (walk (turned c.before.before)).few)
 
-loop-again : tie.Need-loop-preserved invariant-loop decreases-loop
+loop-again : tie.Need-loop-s-preserved invariant-loop decreases-loop
 loop-again c =
     let j = c.before.before in
     let i = turned j in
     let a = walked i in
     let s = ran a in
-    let k = a.loop.s in
-    let u = a.loop.inv.0 in (
+    let k = a.loop-s.s in
+    let u = a.loop-s.invariant.0 in (
       gained_same
           (λ q l. ⊎_elim (λ z. (more_reached s.args.grid s.args.p k (inl z.0), z.1)) (λ z. (more_reached s.args.grid s.args.p k (inr z.0), sym (gained_paint u q l) ∙ z.1 ∙ paint_is s)))
           (λ q l z. ⊎_elim (λ y. inl (y, z.1)) (λ y. inr (y, gained_paint u q l ∙ z.1 ∙ sym (paint_is s))) (reached_more s.args.grid s.args.p k z.0))
-          (gained_trans u (rw (walk i).lands at j.absorb.ensures)),
-      omega (arith, a.loop.inv.1, i.if2.left, a.before.step_count.ensures),
+          (gained_trans u (rw (walk i).lands at j.absorb-end.ensures)),
+      omega (arith, a.loop-s.invariant.1, i.if-s-steps.false, a.before.step_count-steps.ensures),
     )
 
-same-length-2 : tie.Need-same-length-2 invariant-loop decreases-loop
-same-length-2 c = c.before.before.loop.invariant.0.len
+same-length-2 : tie.Need-shape_of-work-then-s-steps invariant-loop decreases-loop
+same-length-2 c = c.before.before.loop-s.invariant.0.len
 
-same-length-3 : tie.Need-same-length-3 invariant-loop decreases-loop
-same-length-3 c = c.before.loop.invariant.0.len
+same-length-3 : tie.Need-shape_of-work invariant-loop decreases-loop
+same-length-3 c = c.before.loop-s.invariant.0.len
 
 -- once all steps are made
-all : (c : tie.At-loop invariant-loop decreases-loop) → let s = ran c in s.args.grid.steps ≤ c.loop.s → Gained s.args.grid (Matches s.args.grid s.args.work.now s.args.p) s.args.work.now c.loop.work s.args.from c.loop.end
+all : (c : tie.At-loop-s invariant-loop decreases-loop) → let s = ran c in s.args.grid.steps ≤ c.loop-s.s → Gained s.args.grid (Matches s.args.grid s.args.work.now s.args.p) s.args.work.now c.loop-s.work s.args.from c.loop-s.end
 all c e =
     let s = ran c in
-    let ways = s.pre.0.sheet.ways in
+    let ways = s.requires.0.sheet.ways in
     gained_same
-    (λ q l z. (reached_all s.args.grid s.args.p c.loop.s ways c.loop.invariant.1 z.0, z.1))
-    (λ q l z. (all_reached s.args.grid s.args.p c.loop.s ways e l z.0, z.1))
-    c.loop.invariant.0
+    (λ q l z. (reached_all s.args.grid s.args.p c.loop-s.s ways c.loop-s.invariant.1 z.0, z.1))
+    (λ q l z. (all_reached s.args.grid s.args.p c.loop-s.s ways e l z.0, z.1))
+    c.loop-s.invariant.0
 
-returns-2 : tie.Need-returns-2 invariant-loop decreases-loop
-returns-2 c = let a = c.before.before in all a (omega (arith, c.if2.true, a.before.step_count.ensures))
+returns-2 : tie.Need-returns-then-s-steps invariant-loop decreases-loop
+returns-2 c = let a = c.before.before in all a (omega (arith, c.if-s-steps.true, a.before.step_count-steps.ensures))
 
-returns-3 : tie.Need-returns-3 invariant-loop decreases-loop
-returns-3 c = let a = c.before in all a (omega (arith, c.loop-test.false, walk_most (ran a).requires.0.sheet))
+returns-3 : tie.Need-returns invariant-loop decreases-loop
+returns-3 c = let a = c.before in all a (omega (arith, c.loop-s-test.false, walk_most (ran a).requires.0.sheet))
 
-pub absorb-beside-spec : {M : Type 1} → statement M
-absorb-beside-spec =
+pub absorb_beside_spec : {M : Type 1} → statement M
+absorb_beside_spec =
     tie.close
     (tie.spec
     invariant-loop

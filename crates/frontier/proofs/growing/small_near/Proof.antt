@@ -7,49 +7,49 @@ use Rattle.verdicts.proofs.Nearby.{near-each}
 use Rattle.frontier.proofs.growing.small_near.Statement.{statement}
 use Rattle.frontier.proofs.growing.small_near.Tie as tie
 
-add-reach : tie.Need-overflow-add-reach
+add-reach : tie.Need-overflow_add-reach
 add-reach c = search rules
 
-returns : tie.Need-returns
+returns : tie.Need-returns-then-p-reach
 returns c = (λ e. clash refl e)
 
-add-far : tie.Need-overflow-add-far
+add-far : tie.Need-overflow_add-far
 add-far c = search rules
 
-returns-2 : tie.Need-returns-2
+returns-2 : tie.Need-returns-then-n-far
 returns-2 c = (λ e. clash refl e)
 
-small-in-row-requires : tie.Need-small-in-row-requires
+small-in-row-requires : tie.Need-small_in_row-requires
 small-in-row-requires c κs = search rules
 
-returns-3 : tie.Need-returns-3
+returns-3 : tie.Need-returns-then-small_in_row
 returns-3 c = (λ e. clash refl e)
 
-sub-before : tie.Need-overflow-sub-before
+sub-before : tie.Need-overflow_sub-before
 sub-before c = search rules
 
-small-in-row-requires-2 : tie.Need-small-in-row-requires-2
+small-in-row-requires-2 : tie.Need-small_in_row-requires-2
 small-in-row-requires-2 c κs = search rules
 
-returns-4 : tie.Need-returns-4
+returns-4 : tie.Need-returns-then-small_in_row-2
 returns-4 c = (λ e. clash refl e)
 
-sub-below : tie.Need-overflow-sub-below
+sub-below : tie.Need-overflow_sub-below
 sub-below c = search rules
 
-small-in-row-requires-3 : tie.Need-small-in-row-requires-3
+small-in-row-requires-3 : tie.Need-small_in_row-requires-3
 small-in-row-requires-3 c κs = search rules
 
-returns-5 : tie.Need-returns-5
+returns-5 : tie.Need-returns
 returns-5 c =
     let b = c.before.before in
     let a = b.before.before in
     let e = a.before.before in
     let s = e.before.before in
-    (λ z. near-each (λ q. plane s.args.n 0 s.args.work.now q ≡ s.args.paint → plane s.args.n 5 s.args.work.now q ≡ 0 → ⊥) s.args.w s.args.p e.if1.false (a.small-in-row.ensures b.before.if3.false) (b.small-in-row2.ensures c.before.if4.false) (c.small-in-row3.ensures z))
+    (λ z. near-each (λ q. plane s.args.n 0 s.args.work.now q ≡ s.args.paint → plane s.args.n 5 s.args.work.now q ≡ 0 → ⊥) s.args.w s.args.p e.if-p-reach.false (a.small_in_row.ensures b.before.if-small_in_row.false) (b.small_in_row-2.ensures c.before.if-small_in_row-2.false) (c.small_in_row-3.ensures z))
 
-pub small-near-spec : {M : Type 1} → statement M
-small-near-spec =
+pub small_near_spec : {M : Type 1} → statement M
+small_near_spec =
     tie.close
     (tie.spec
     add-reach

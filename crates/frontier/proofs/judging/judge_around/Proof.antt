@@ -14,83 +14,83 @@ use Rattle.frontier.proofs.Progress.{met_none, met_more, met_as}
 use Rattle.frontier.proofs.judging.judge_around.Statement.{statement}
 use Rattle.frontier.proofs.judging.judge_around.Tie as tie
 
-abbrev invariant-loop : tie.invariant-loop
+abbrev invariant-loop : tie.invariant-loop-i
 invariant-loop work₀ grid palette by at from n end₀ i₀ i-end work end i = Met (rule_of grid by palette) grid by.k (Small (area_of grid) work₀ (Beside grid work₀ i₀ i)) work₀ work from end × (i₀ ≤ i)
 
-abbrev decreases-loop : tie.decreases-loop
+abbrev decreases-loop : tie.decreases-loop-i
 decreases-loop work₀ grid palette by at from n end₀ i₀ i-end work end i = i-end - i
 
-abbrev entered : tie.After-struct-known invariant-loop decreases-loop → tie.Start invariant-loop decreases-loop
+abbrev entered : tie.After-struct_known-1 invariant-loop decreases-loop → tie.Start invariant-loop decreases-loop
 entered c = c.before.before.before
 
-mul-n : tie.Need-overflow-mul-n invariant-loop decreases-loop
+mul-n : tie.Need-overflow_mul-n invariant-loop decreases-loop
 mul-n c = omega (arith, sheet-few (entered c).requires.0.0.sheet)
 
-region-span-requires : tie.Need-region-span-requires invariant-loop decreases-loop
-region-span-requires c κs = let s = entered c.before in let b = s.pre.0.0.sheet in (b.room, sheet-few b, s.pre.1)
+region-span-requires : tie.Need-region_span-span-requires invariant-loop decreases-loop
+region-span-requires c κs = let s = entered c.before in let b = s.requires.0.0.sheet in (b.room, sheet-few b, s.requires.1)
 
-abbrev start : tie.After-region-span invariant-loop decreases-loop → tie.Start invariant-loop decreases-loop
+abbrev start : tie.After-region_span-span invariant-loop decreases-loop → tie.Start invariant-loop decreases-loop
 start c = entered c.before.before
 
-loop-holds : tie.Need-loop-init invariant-loop decreases-loop
+loop-holds : tie.Need-loop-i-init invariant-loop decreases-loop
 loop-holds c = (met_none (start c).requires.0.0 (λ q l z. omega (arith, z.1, z.2)), omega arith)
 
 -- the call that a turn belongs to
-abbrev ran : tie.In-loop invariant-loop decreases-loop → tie.Start invariant-loop decreases-loop
+abbrev ran : tie.In-loop-i invariant-loop decreases-loop → tie.Start invariant-loop decreases-loop
 ran c = start c.before.before
 
 -- what is read is a place of the group
-turn : (c : tie.In-loop invariant-loop decreases-loop) → SpanTurn (area_of (ran c).args.grid) c.before.loop.i c.before.before.region-span.result (ran c).args.work.now c.before.loop.work
+turn : (c : tie.In-loop-i invariant-loop decreases-loop) → SpanTurn (area_of (ran c).args.grid) c.before.loop-i.i c.before.before.region_span-span.result (ran c).args.work.now c.before.loop-i.work
 turn c =
     let s = ran c in
-    let b = s.pre.0.0.sheet in
-    let u = c.before.loop.invariant in
-    span_turn (sheet-few b) b.room (group-stretch s.pre.1 c.before.before.region-span.ensures) u.0.len (λ q l. u.0.same 2 q (omega arith) l) u.1 c.loop-test.true
+    let b = s.requires.0.0.sheet in
+    let u = c.before.loop-i.invariant in
+    span_turn (sheet-few b) b.room (group-stretch s.requires.1 c.before.before.region_span-span.ensures) u.0.len (λ q l. u.0.same 2 q (omega arith) l) u.1 c.loop-i-test.true
 
-mul-p : tie.Need-overflow-mul-p invariant-loop decreases-loop
+mul-p : tie.Need-overflow_mul-p invariant-loop decreases-loop
 mul-p c = omega (arith, turn c)
 
-add-p : tie.Need-overflow-add-p invariant-loop decreases-loop
+add-p : tie.Need-overflow_add-p invariant-loop decreases-loop
 add-p c = omega (arith, turn c)
 
-mul-p-2 : tie.Need-overflow-mul-p-2 invariant-loop decreases-loop
+mul-p-2 : tie.Need-offset_bounds-work-n invariant-loop decreases-loop
 mul-p-2 c = omega (arith, turn c)
 
-slice-read-p : tie.Need-slice-read-p invariant-loop decreases-loop
+slice-read-p : tie.Need-bounds-work-n invariant-loop decreases-loop
 slice-read-p c = omega (arith, turn c.before)
 
-cast-p : tie.Need-overflow-cast-p invariant-loop decreases-loop
+cast-p : tie.Need-overflow_cast-p invariant-loop decreases-loop
 cast-p c = omega (arith, turn c.before)
 
-judge-beside-requires : tie.Need-judge-beside-requires invariant-loop decreases-loop
-judge-beside-requires c κs = let i = c.before.before in ((i.before.loop.invariant.0.stage, (ran i).requires.0.1), (turn i).place)
+judge-beside-requires : tie.Need-judge_beside-end-requires invariant-loop decreases-loop
+judge-beside-requires c κs = let i = c.before.before in ((i.before.loop-i.invariant.0.stage, (ran i).requires.0.1), (turn i).place)
 
-abbrev turned : tie.After-judge-beside invariant-loop decreases-loop → tie.In-loop invariant-loop decreases-loop
+abbrev turned : tie.After-judge_beside-end invariant-loop decreases-loop → tie.In-loop-i invariant-loop decreases-loop
 turned c = c.before.before.before
 
-add-i : tie.Need-overflow-add-i invariant-loop decreases-loop
+add-i : tie.Need-overflow_step-i invariant-loop decreases-loop
 add-i c = omega (arith, turn (turned c.before.before))
 
-loop-less : tie.Need-loop-smaller invariant-loop decreases-loop
+loop-less : tie.Need-loop-i-smaller invariant-loop decreases-loop
 loop-less c = omega (arith, turn (turned c.before.before))
 
-loop-again : tie.Need-loop-preserved invariant-loop decreases-loop
+loop-again : tie.Need-loop-i-preserved invariant-loop decreases-loop
 loop-again c =
     let j = c.before.before in
     let i = turned j in
-    (met_more (ran i).pre.0.0 (λ q l z. within_more z) i.before.loop.inv.0 (rw (turn i).is at j.judge-beside.ensures), omega (arith, turn i))
+    (met_more (ran i).requires.0.0 (λ q l z. within_more z) i.before.loop-i.invariant.0 (rw (turn i).is at j.judge_beside-end.ensures), omega (arith, turn i))
 
-same_length : tie.Need-same-length invariant-loop decreases-loop
-same_length c = c.before.loop.invariant.0.len
+same_length : tie.Need-shape_of-work invariant-loop decreases-loop
+same_length c = c.before.loop-i.invariant.0.len
 
 returns : tie.Need-returns invariant-loop decreases-loop
 returns c =
     let e = c.before.before in
     let s = start e in
-    met_as (λ q l z. group-within (λ p. adjoins s.args.grid p q ≡ true) s.pre.1 e.region-span.ensures c.loop-test.false z) c.before.loop.invariant.0
+    met_as (λ q l z. group-within (λ p. adjoins s.args.grid p q ≡ true) s.requires.1 e.region_span-span.ensures c.loop-i-test.false z) c.before.loop-i.invariant.0
 
-pub judge-around-spec : {M : Type 1} → statement M
-judge-around-spec =
+pub judge_around_spec : {M : Type 1} → statement M
+judge_around_spec =
     tie.close
     (tie.spec
     invariant-loop

@@ -8,90 +8,90 @@ use Rattle.frontier.proofs.Setting.{in_plane, RegionSetting, setting_start, sett
 use Rattle.frontier.proofs.regions.set_region.Statement.{statement}
 use Rattle.frontier.proofs.regions.set_region.Tie as tie
 
-abbrev invariant-loop : tie.invariant-loop
+abbrev invariant-loop : tie.invariant-loop-i
 invariant-loop work₀ n at j v base i₀ i-end work i = RegionSetting n at j v i work₀ work
 
-abbrev decreases-loop : tie.decreases-loop
+abbrev decreases-loop : tie.decreases-loop-i
 decreases-loop work₀ n at j v base i₀ i-end work i = i-end - i
 
-region-span-requires : tie.Need-region-span-requires invariant-loop decreases-loop
+region-span-requires : tie.Need-region_span-span-requires invariant-loop decreases-loop
 region-span-requires c κs = let s = c.before.before in (s.requires.1.0, s.requires.1.1, s.requires.0)
 
-abbrev start : tie.After-region-span invariant-loop decreases-loop → tie.Start invariant-loop decreases-loop
+abbrev start : tie.After-region_span-span invariant-loop decreases-loop → tie.Start invariant-loop decreases-loop
 start c = c.before.before.before
 
-mul-base : tie.Need-overflow-mul-base invariant-loop decreases-loop
-mul-base c = let s = start c in omega (arith, in_plane s.args.n s.args.j s.args.at s.pre.1.2 s.pre.0.label, s.pre.1.1)
+mul-base : tie.Need-overflow_mul-base invariant-loop decreases-loop
+mul-base c = let s = start c in omega (arith, in_plane s.args.n s.args.j s.args.at s.requires.1.2 s.requires.0.label, s.requires.1.1)
 
-loop-holds : tie.Need-loop-init invariant-loop decreases-loop
-loop-holds c = rw c.region-span.ensures.0 (setting_start _ _ _ _ _ (start c).requires.0)
+loop-holds : tie.Need-loop-i-init invariant-loop decreases-loop
+loop-holds c = rw c.region_span-span.ensures.0 (setting_start _ _ _ _ _ (start c).requires.0)
 
 -- the call that a turn belongs to
-abbrev ran : tie.In-loop invariant-loop decreases-loop → tie.Start invariant-loop decreases-loop
+abbrev ran : tie.In-loop-i invariant-loop decreases-loop → tie.Start invariant-loop decreases-loop
 ran c = start c.before.before
 
 -- what is read is a place of the group
-turn : (c : tie.In-loop invariant-loop decreases-loop) → SpanTurn (ran c).args.n c.before.loop.i c.before.before.region-span.result (ran c).args.work.now c.before.loop.work
+turn : (c : tie.In-loop-i invariant-loop decreases-loop) → SpanTurn (ran c).args.n c.before.loop-i.i c.before.before.region_span-span.result (ran c).args.work.now c.before.loop-i.work
 turn c =
     let s = ran c in
-    let u = c.before.loop.invariant in
-    let ends = c.before.before.region-span.ensures in
-    span_turn s.pre.1.1 s.pre.1.0 (group-stretch s.pre.0 ends) u.len (λ q l. u.others 2 q (λ z. ⊎_elim (λ y. absurd (omega arith)) (λ y. absurd (omega arith)) s.pre.1.3) l) (omega (arith, ends.0, u.low)) c.loop-test.true
+    let u = c.before.loop-i.invariant in
+    let ends = c.before.before.region_span-span.ensures in
+    span_turn s.requires.1.1 s.requires.1.0 (group-stretch s.requires.0 ends) u.len (λ q l. u.others 2 q (λ z. ⊎_elim (λ y. absurd (omega arith)) (λ y. absurd (omega arith)) s.requires.1.3) l) (omega (arith, ends.0, u.low)) c.loop-i-test.true
 
-mul-p : tie.Need-overflow-mul-p invariant-loop decreases-loop
+mul-p : tie.Need-overflow_mul-p invariant-loop decreases-loop
 mul-p c = omega (arith, turn c)
 
-add-p : tie.Need-overflow-add-p invariant-loop decreases-loop
+add-p : tie.Need-overflow_add-p invariant-loop decreases-loop
 add-p c = omega (arith, turn c)
 
-mul-p-2 : tie.Need-overflow-mul-p-2 invariant-loop decreases-loop
+mul-p-2 : tie.Need-offset_bounds-work-n invariant-loop decreases-loop
 mul-p-2 c = omega (arith, turn c)
 
-slice-read-p : tie.Need-slice-read-p invariant-loop decreases-loop
+slice-read-p : tie.Need-bounds-work-n invariant-loop decreases-loop
 slice-read-p c = omega (arith, turn c.before)
 
-cast-p : tie.Need-overflow-cast-p invariant-loop decreases-loop
+cast-p : tie.Need-overflow_cast-p invariant-loop decreases-loop
 cast-p c = omega (arith, turn c.before)
 
 -- where it is written
-spot : (c : tie.In-loop invariant-loop decreases-loop) → (ran c).args.j * (ran c).args.n + get_or c.before.loop.work (2 * (ran c).args.n + c.before.loop.i) 0 < 8 * (ran c).args.n
-spot c = let s = ran c in in_plane s.args.n s.args.j _ s.pre.1.2 (turn c).place
+spot : (c : tie.In-loop-i invariant-loop decreases-loop) → (ran c).args.j * (ran c).args.n + get_or c.before.loop-i.work (2 * (ran c).args.n + c.before.loop-i.i) 0 < 8 * (ran c).args.n
+spot c = let s = ran c in in_plane s.args.n s.args.j _ s.requires.1.2 (turn c).place
 
-add-work : tie.Need-overflow-add-work invariant-loop decreases-loop
+add-work : tie.Need-overflow_add-work invariant-loop decreases-loop
 add-work c = omega (arith, turn c.before, spot c.before)
 
-mul-work : tie.Need-overflow-mul-work invariant-loop decreases-loop
+mul-work : tie.Need-offset_bounds-work-base invariant-loop decreases-loop
 mul-work c = omega (arith, turn c.before, spot c.before)
 
-slice-write-work : tie.Need-slice-write-work invariant-loop decreases-loop
+slice-write-work : tie.Need-bounds-work-base invariant-loop decreases-loop
 slice-write-work c = omega (arith, turn c.before, spot c.before)
 
-add-i : tie.Need-overflow-add-i invariant-loop decreases-loop
+add-i : tie.Need-overflow_step-i invariant-loop decreases-loop
 add-i c = omega (arith, turn c.before)
 
-loop-less : tie.Need-loop-smaller invariant-loop decreases-loop
-loop-less c = omega (arith, turn c.before, c.before.loop-test.true)
+loop-less : tie.Need-loop-i-smaller invariant-loop decreases-loop
+loop-less c = omega (arith, turn c.before, c.before.loop-i-test.true)
 
-loop-again : tie.Need-loop-preserved invariant-loop decreases-loop
+loop-again : tie.Need-loop-i-preserved invariant-loop decreases-loop
 loop-again c =
     let i = c.before in
     let s = ran i in
     let b = turn i in
-    setting_on s.args.n s.args.at s.args.j s.args.v s.args.work.now s.pre.0 i.before.loop.i i.before.loop.work i.before.loop.invariant (omega (arith, b.turn, i.before.before.region-span.ensures.1))
+    setting_on s.args.n s.args.at s.args.j s.args.v s.args.work.now s.requires.0 i.before.loop-i.i i.before.loop-i.work i.before.loop-i.invariant (omega (arith, b.turn, i.before.before.region_span-span.ensures.1))
     _ _ b.place b.is (omega arith) (omega (arith, b, spot i))
 
-same_length : tie.Need-same-length invariant-loop decreases-loop
-same_length c = c.before.loop.invariant.len
+same_length : tie.Need-shape_of-work invariant-loop decreases-loop
+same_length c = c.before.loop-i.invariant.len
 
 returns : tie.Need-returns invariant-loop decreases-loop
 returns c =
     let e = c.before.before in
     let s = start e in
-    setting_end s.args.n s.args.at s.args.j s.args.v s.args.work.now s.pre.0 c.before.loop.i c.before.loop.work c.before.loop.invariant
-    (omega (arith, c.loop-test.false, e.region-span.ensures.1))
+    setting_end s.args.n s.args.at s.args.j s.args.v s.args.work.now s.requires.0 c.before.loop-i.i c.before.loop-i.work c.before.loop-i.invariant
+    (omega (arith, c.loop-i-test.false, e.region_span-span.ensures.1))
 
-pub set-region-spec : {M : Type 1} → statement M
-set-region-spec =
+pub set_region_spec : {M : Type 1} → statement M
+set_region_spec =
     tie.close
     (tie.spec
     invariant-loop

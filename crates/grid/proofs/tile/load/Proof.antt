@@ -11,45 +11,45 @@ use Rattle.grid.proofs.Tiles.{same_tile, filled-to, paints_none, paints_to}
 use Rattle.grid.proofs.tile.load.Statement.{statement}
 use Rattle.grid.proofs.tile.load.Tie as tie
 
-abbrev invariant-loop : tie.invariant-loop
+abbrev invariant-loop : tie.invariant-loop-y
 invariant-loop cells work₀ start stride h w y₀ work y =
     (y ≤ h) × (length work ≡ length work₀) × (work ≡ filled (y * w) (paint_at cells start stride w) work₀) × Paints (y * w) work
 
-abbrev decreases-loop : tie.decreases-loop
+abbrev decreases-loop : tie.decreases-loop-y
 decreases-loop cells work₀ start stride h w y₀ work y = h - y
 
-loop-holds : tie.Need-loop-init invariant-loop decreases-loop
+loop-holds : tie.Need-loop-y-init invariant-loop decreases-loop
 loop-holds c = let a = c.before.args in (omega arith, refl, filled-to 0 (0 * a.w) _ _ _ (sym (zero-mul a.w)) (filled_none _ _), paints_to (sym (zero-mul a.w)) (paints_none _))
 
-load-row-requires : tie.Need-load-row-requires invariant-loop decreases-loop
-load-row-requires c κs = let i = c.before in (same_tile i.before.before.before.requires refl i.before.loop.invariant.1, i.loop-test.true)
+load-row-requires : tie.Need-load_row-requires invariant-loop decreases-loop
+load-row-requires c κs = let i = c.before in (same_tile i.before.before.before.requires refl i.before.loop-y.invariant.1, i.loop-y-test.true)
 
-abbrev looped : tie.After-slice-known2 invariant-loop decreases-loop → tie.In-loop invariant-loop decreases-loop
+abbrev looped : tie.After-slice_known-in-loop-y-1 invariant-loop decreases-loop → tie.In-loop-y invariant-loop decreases-loop
 looped c = c.before.before.before.before
 
-add-y : tie.Need-overflow-add-y invariant-loop decreases-loop
-add-y c = let i = looped c in omega (arith, i.loop-test.taken, i.before.before.before.pre.rows)
+add-y : tie.Need-overflow_step-y invariant-loop decreases-loop
+add-y c = let i = looped c in omega (arith, i.loop-y-test.true, i.before.before.before.requires.rows)
 
-loop-less : tie.Need-loop-smaller invariant-loop decreases-loop
-loop-less c = omega (arith, (looped c).loop-test.true)
+loop-less : tie.Need-loop-y-smaller invariant-loop decreases-loop
+loop-less c = omega (arith, (looped c).loop-y-test.true)
 
-loop-again : tie.Need-loop-preserved invariant-loop decreases-loop
+loop-again : tie.Need-loop-y-preserved invariant-loop decreases-loop
 loop-again c =
     let r = c.before.before in
     let i = looped c in
-    let v = i.before.loop.inv in
-    (omega (arith, i.loop-test.taken), r.Load-row.auto.1.0 ∙ v.1, r.Load-row.ensures.0 _ v.2, r.Load-row.ensures.1 v.3)
+    let v = i.before.loop-y.invariant in
+    (omega (arith, i.loop-y-test.true), r.load_row.auto.1.0 ∙ v.1, r.load_row.ensures.0 _ v.2, r.load_row.ensures.1 v.3)
 
-same_length : tie.Need-same-length invariant-loop decreases-loop
-same_length c = c.before.loop.invariant.1
+same_length : tie.Need-shape_of-work invariant-loop decreases-loop
+same_length c = c.before.loop-y.invariant.1
 
 returns : tie.Need-returns invariant-loop decreases-loop
 returns c =
-    let v = c.before.loop.invariant in
+    let v = c.before.loop-y.invariant in
     let s = c.before.before.before.args in
-    let e : c.before.loop.y ≡ s.h = omega (arith, v.0, c.loop-test.false) in
-    let d : c.before.loop.y * s.w ≡ s.h * s.w = ap (λ (k : ℕ). k * s.w) e in
-    (filled-to (c.before.loop.y * s.w) (s.h * s.w) _ _ _ d v.2, paints_to d v.3)
+    let e : c.before.loop-y.y ≡ s.h = omega (arith, v.0, c.loop-y-test.false) in
+    let d : c.before.loop-y.y * s.w ≡ s.h * s.w = ap (λ (k : ℕ). k * s.w) e in
+    (filled-to (c.before.loop-y.y * s.w) (s.h * s.w) _ _ _ d v.2, paints_to d v.3)
 
 pub load_spec : {M : Type 1} → statement M
 load_spec =

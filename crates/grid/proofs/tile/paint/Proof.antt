@@ -11,20 +11,24 @@ use Rattle.grid.proofs.tile.paint.Statement.{statement}
 use Rattle.grid.proofs.tile.paint.Tie as tie
 
 -- the cell is opaque
-opaque : (c : tie.Else1) → lt_z c.before.args.cell (pos 0) ≡ false
-opaque c = rw (to_z-of_z c.before.ranges.cell) at c.if1.false
+opaque : (c : tie.Else-cell-lt0) → lt_z c.before.args.cell (pos 0) ≡ false
+opaque c = rw (to_z-of_z c.before.ranges.cell) at c.if-cell-lt0.false
 
-cast-result : tie.Need-overflow-cast-result
+cast-result : tie.Need-overflow_cast-result
 cast-result c = rw (to_z-of_z c.before.ranges.cell) (to_T (not_before c.before.args.cell (opaque c)), Fits-nat_abs tt c.before.ranges.cell)
 
-add-result : tie.Need-overflow-add-result
+add-result : tie.Need-overflow_add-result
 add-result c = rw (to_z-of_z c.before.ranges.cell) (omega (arith, paint_fits c.before.args.cell c.before.ranges.cell (opaque c)))
 
-returns : tie.Need-returns
-returns c = clear_paint c.before.args.cell (rw (to_z-of_z c.before.ranges.cell) at c.if1.true)
+returns : tie.Need-returns-then-cell-lt0
+returns c = clear_paint c.before.args.cell (rw (to_z-of_z c.before.ranges.cell) at c.if-cell-lt0.true)
 
-returns-2 : tie.Need-returns-2
+returns-2 : tie.Need-returns-else-cell-lt0
 returns-2 c = rw (to_z-of_z c.before.ranges.cell) (opaque_paint c.before.args.cell (opaque c))
 
-pub paint-spec : {M : Type 1} → statement M
-paint-spec = tie.close (tie.spec cast-result add-result returns returns-2)
+pub paint_spec : {M : Type 1} → statement M
+paint_spec = tie.close (tie.spec
+    cast-result
+    add-result
+    returns
+    returns-2)

@@ -16,25 +16,31 @@ alone-requires c κs =
     let z = b.flood.filled.sized in
     (record { rows = z.rows; cols = z.cols; count = z.count; planes = omega (arith, z.planes, seen_size (s.args.g.h * s.args.g.w) s.args.work.now) }, alone_in b)
 
-same_length : tie.Need-same-length
+same_length : tie.Need-shape_of-work-then-alone
 same_length c = search rules
 
-returns : tie.Need-returns
+returns : tie.Need-returns-then-alone
 returns c =
     let s = c.before.before.before.before in
     let b = s.requires.0.0 in
-    let a = c.before.alone.ensures c.if1.true in
+    let a = c.before.alone.ensures c.if-alone.true in
     let whole = alone_whole b (λ q lq l e same. code_kept s.requires.0.1 s.requires.1 q lq (a.none q l e) (same ∙ alone_paint b s.requires.0.2)) in
     ((whole, s.requires.0.1), (since_refl _, refl))
 
 flood-requires : tie.Need-flood-requires
 flood-requires c κs = search rules
 
-same-length-2 : tie.Need-same-length-2
+same-length-2 : tie.Need-shape_of-work
 same-length-2 c = search rules
 
-returns-2 : tie.Need-returns-2
+returns-2 : tie.Need-returns
 returns-2 c = search rules
 
 pub fill_spec : {M : Type 1} → statement M
-fill_spec = tie.close (tie.spec alone-requires same_length returns flood-requires same-length-2 returns-2)
+fill_spec = tie.close (tie.spec
+    alone-requires
+    same_length
+    returns
+    flood-requires
+    same-length-2
+    returns-2)

@@ -6,43 +6,49 @@ use Rattle.labels.proofs.Answers.{filled-same}
 use Rattle.labels.proofs.label.label_into.Statement.{statement}
 use Rattle.labels.proofs.label.label_into.Tie as tie
 
-mul-n : tie.Need-overflow-mul-n
+mul-n : tie.Need-overflow_mul-n
 mul-n c = let s = c.before.before in omega (arith, area _ _ s.requires.0.0.rows s.requires.0.0.cols)
 
 -- where the planes are labelled, and where that is begun
-abbrev start : tie.After-label-planes-arg → tie.Start
+abbrev start : tie.After-label_planes-arg-1 → tie.Start
 start c = c.before.before.before
 
-label-planes-requires : tie.Need-label-planes-requires
-label-planes-requires c κs = let s = start c in (s.pre.0.0, s.pre.1)
+label-planes-requires : tie.Need-label_planes-t-requires
+label-planes-requires c κs = let s = start c in (s.requires.0.0, s.requires.1)
 
-abbrev labelled : tie.After-copy-arg2 → tie.After-label-planes
+abbrev labelled : tie.After-copy-arg2 → tie.After-label_planes-t
 labelled c = c.before.before.before.before
 
 copy-requires : tie.Need-copy-requires
 copy-requires c κs =
     let l = labelled c in
     let s = start l.before in
-    (omega (arith, s.pre.0.0.planes, l.label-planes.ensures.1.size), s.pre.0.1, area _ _ s.pre.0.0.rows s.pre.0.0.cols)
+    (omega (arith, s.requires.0.0.planes, l.label_planes-t.ensures.1.size), s.requires.0.1, area _ _ s.requires.0.0.rows s.requires.0.0.cols)
 
 -- where the labels are handed out
-abbrev copied : tie.After-slice-known4 → tie.After-copy
+abbrev copied : tie.After-slice_known-4-1 → tie.After-copy
 copied c = c.before.before
 
-same_length : tie.Need-same-length
-same_length c = (labelled (copied c).before).label-planes.ensures.1.size
+same_length : tie.Need-shape_of-work
+same_length c = (labelled (copied c).before).label_planes-t.ensures.1.size
 
-same-length-2 : tie.Need-same-length-2
+same-length-2 : tie.Need-shape_of-labels
 same-length-2 c = (copied c).copy.auto.1.0
 
 returns : tie.Need-returns
 returns c =
     let f = copied c in
     let l = labelled f.before in
-    let g = l.label-planes.ensures.0 in
-    (g.count, f.copy.ensures ∙ filled-same _ _ _ _ (start l.before).requires.0.1 g.labels)
+    let g = l.label_planes-t.ensures.0 in
+    (g.count, f.copy.ensures ∙ filled-same _ _ _ _ (start l.before).requires.0.1 g.labels-1)
 
-pub label-into-spec : {M : Type 1} → statement M
-label-into-spec =
+pub label_into_spec : {M : Type 1} → statement M
+label_into_spec =
     tie.close
-    (tie.spec mul-n label-planes-requires copy-requires same_length same-length-2 returns)
+    (tie.spec
+    mul-n
+    label-planes-requires
+    copy-requires
+    same_length
+    same-length-2
+    returns)

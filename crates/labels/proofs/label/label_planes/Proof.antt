@@ -13,76 +13,76 @@ use Rattle.labels.proofs.Seen.{seen_size, seen_all, cleared_coded, cleared_blank
 use Rattle.labels.proofs.label.label_planes.Statement.{statement}
 use Rattle.labels.proofs.label.label_planes.Tie as tie
 
-abbrev invariant-loop : tie.invariant-loop
+abbrev invariant-loop : tie.invariant-loop-s
 invariant-loop work₀ h w steps g n t₀ s₀ work t s =
     Filled h w steps (seen (h * w) work) t.regions t Shut × LabelledTo h w steps (seen (h * w) work) t s × PlanesKept (h * w) (seen (h * w) work₀) (seen (h * w) work) × (s ≤ h * w) × Coded (h * w) work
 
-abbrev decreases-loop : tie.decreases-loop
+abbrev decreases-loop : tie.decreases-loop-s
 decreases-loop work₀ h w steps g n t₀ s₀ work t s = h * w - s
 
 few : (c : tie.Start invariant-loop decreases-loop) → c.args.h * c.args.w ≤ 264196
 few c = area _ _ c.requires.0.rows c.requires.0.cols
 
-mul-n : tie.Need-overflow-mul-n invariant-loop decreases-loop
+mul-n : tie.Need-overflow_mul-n invariant-loop decreases-loop
 mul-n c = omega (arith, few c.before)
 
 clear-requires : tie.Need-clear-requires invariant-loop decreases-loop
 clear-requires c κs = let s = c.before.before in ((s.requires.0.planes, few s), s.requires.1)
 
 -- where plane 1 is cleared
-abbrev cleared : tie.After-slice-known2 invariant-loop decreases-loop → tie.After-clear invariant-loop decreases-loop
+abbrev cleared : tie.After-slice_known-2-1 invariant-loop decreases-loop → tie.After-clear invariant-loop decreases-loop
 cleared c = c.before.before
 
-abbrev start : tie.After-slice-known2 invariant-loop decreases-loop → tie.Start invariant-loop decreases-loop
+abbrev start : tie.After-slice_known-2-1 invariant-loop decreases-loop → tie.Start invariant-loop decreases-loop
 start c = (cleared c).before.before.before
 
 -- the sizes are the same once plane 1 is cleared
-sized : (c : tie.After-slice-known2 invariant-loop decreases-loop) → Sized (start c).args.h (start c).args.w (start c).args.steps (seen ((start c).args.h * (start c).args.w) (cleared c).clear.new.0)
+sized : (c : tie.After-slice_known-2-1 invariant-loop decreases-loop) → Sized (start c).args.h (start c).args.w (start c).args.steps (seen ((start c).args.h * (start c).args.w) (cleared c).clear.new.work)
 sized c =
     let p = (start c).requires.0 in
-    let l = seen_size ((start c).args.h * (start c).args.w) (cleared c).clear.new.0 in
+    let l = seen_size ((start c).args.h * (start c).args.w) (cleared c).clear.new.work in
     record { rows = p.rows; cols = p.cols; count = p.count; planes = omega (arith, p.planes, (cleared c).clear.ensures.size, l) }
 
-loop-holds : tie.Need-loop-init invariant-loop decreases-loop
+loop-holds : tie.Need-loop-s-init invariant-loop decreases-loop
 loop-holds c =
     let k = (cleared c).clear.ensures in
     (start-filled (sized c) (cleared_blank k), start_passed (sized c) (cleared_blank k), kept_refl _, omega arith, cleared_coded k (start c).requires.1)
 
-begin-requires : tie.Need-begin-requires invariant-loop decreases-loop
-begin-requires c κs = let i = c.before in let v = i.before.loop.invariant in ((v.0, v.4), (v.1, i.loop-test.true))
+begin-requires : tie.Need-begin-t-requires invariant-loop decreases-loop
+begin-requires c κs = let i = c.before in let v = i.before.loop-s.invariant in ((v.0, v.4), (v.1, i.loop-s-test.true))
 
-add-s : tie.Need-overflow-add-s invariant-loop decreases-loop
-add-s c = let i = c.before.before.before.before in omega (arith, i.loop-test.true, few (start i.before.before))
+add-s : tie.Need-overflow_step-s invariant-loop decreases-loop
+add-s c = let i = c.before.before.before.before in omega (arith, i.loop-s-test.true, few (start i.before.before))
 
-loop-less : tie.Need-loop-smaller invariant-loop decreases-loop
-loop-less c = omega (arith, c.before.before.before.before.loop-test.true)
+loop-less : tie.Need-loop-s-smaller invariant-loop decreases-loop
+loop-less c = omega (arith, c.before.before.before.before.loop-s-test.true)
 
-loop-again : tie.Need-loop-preserved invariant-loop decreases-loop
+loop-again : tie.Need-loop-s-preserved invariant-loop decreases-loop
 loop-again c =
     let b = c.before.before in
     let i = b.before.before in
-    let e = b.begin.ensures in
-    (e.0.0, e.1.0, kept_trans i.before.loop.invariant.2 e.1.1.kept, omega (arith, i.loop-test.true), e.0.1)
+    let e = b.begin-t.ensures in
+    (e.0.0, e.1.0, kept_trans i.before.loop-s.invariant.2 e.1.1.kept, omega (arith, i.loop-s-test.true), e.0.1)
 
 -- what is kept since the entry, as it is seen
-kept_all : (c : tie.After-loop invariant-loop decreases-loop) → let s = (start c.before.before).args in PlanesKept (s.h * s.w) s.work.now (seen (s.h * s.w) c.before.loop.work)
-kept_all c = kept_trans (cleared_kept (cleared c.before.before).clear.ensures) c.before.loop.invariant.2
+kept_all : (c : tie.After-loop-s invariant-loop decreases-loop) → let s = (start c.before.before).args in PlanesKept (s.h * s.w) s.work-1.now (seen (s.h * s.w) c.before.loop-s.work)
+kept_all c = kept_trans (cleared_kept (cleared c.before.before).clear.ensures) c.before.loop-s.invariant.2
 
-same_length : tie.Need-same-length invariant-loop decreases-loop
-same_length c = let s = (start c.before.before).args in sym (seen_size (s.h * s.w) c.before.loop.work) ∙ (kept_all c).size
+same_length : tie.Need-shape_of-work invariant-loop decreases-loop
+same_length c = let s = (start c.before.before).args in sym (seen_size (s.h * s.w) c.before.loop-s.work) ∙ (kept_all c).size
 
 returns : tie.Need-returns invariant-loop decreases-loop
 returns c =
     let s = (start c.before.before).args in
     let m : ℕ = s.h * s.w in
-    let l = c.before.loop in
+    let l = c.before.loop-s in
     let v = l.invariant in
-    let done : l.s ≡ m = omega (arith, v.3, c.loop-test.false) in
-    subst (λ (x : List ℕ). Labelled (neighbours s.steps s.w) (cells_of m s.work.now) m x l.t.regions l.t.taken × PlanesKept m s.work.now x)
+    let done : l.s ≡ m = omega (arith, v.3, c.loop-s-test.false) in
+    subst (λ (x : List ℕ). Labelled (neighbours s.steps s.w) (cells_of m s.work-1.now) m x l.t.regions l.t.taken × PlanesKept m s.work-1.now x)
     (seen_all v.4 (λ p lp. v.1.labelled p (omega arith))) (all_labelled v.0 v.1 done (kept_all c), kept_all c)
 
-pub label-planes-spec : {M : Type 1} → statement M
-label-planes-spec =
+pub label_planes_spec : {M : Type 1} → statement M
+label_planes_spec =
     tie.close
     (tie.spec
     invariant-loop

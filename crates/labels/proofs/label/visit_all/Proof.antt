@@ -21,10 +21,10 @@ use Rattle.labels.proofs.Seen.{seen_size, seen_other, seen-length}
 use Rattle.labels.proofs.label.visit_all.Statement.{statement}
 use Rattle.labels.proofs.label.visit_all.Tie as tie
 
-abbrev invariant-loop : tie.invariant-loop
+abbrev invariant-loop : tie.invariant-loop-k
 invariant-loop work₀ head code h w n p border offsets steps t₀ k₀ work t k = Turn h w steps (seen (h * w) work₀) t₀ head p k (seen (h * w) work) t × Coded (h * w) work × (k ≤ steps)
 
-abbrev decreases-loop : tie.decreases-loop
+abbrev decreases-loop : tie.decreases-loop-k
 decreases-loop work₀ head code h w n p border offsets steps t₀ k₀ work t k = 8 - k
 
 abbrev S : Type 0
@@ -65,150 +65,150 @@ bounds c =
       waits = waits-at c;
     }
 
-mul-n : tie.Need-overflow-mul-n invariant-loop decreases-loop
+mul-n : tie.Need-overflow_mul-n invariant-loop decreases-loop
 mul-n c = omega (arith, bounds c.before)
 
-mul-p : tie.Need-overflow-mul-p invariant-loop decreases-loop
+mul-p : tie.Need-overflow_mul-p invariant-loop decreases-loop
 mul-p c = omega (arith, bounds c.before)
 
-add-p : tie.Need-overflow-add-p invariant-loop decreases-loop
+add-p : tie.Need-overflow_add-p invariant-loop decreases-loop
 add-p c = omega (arith, bounds c.before)
 
-mul-p-2 : tie.Need-overflow-mul-p-2 invariant-loop decreases-loop
+mul-p-2 : tie.Need-offset_bounds-work-n invariant-loop decreases-loop
 mul-p-2 c = omega (arith, bounds c.before)
 
-abbrev entered : tie.After-slice-known2 invariant-loop decreases-loop → S
+abbrev entered : tie.After-slice_known-2-1 invariant-loop decreases-loop → S
 entered c = c.before.before
 
-slice-read-p : tie.Need-slice-read-p invariant-loop decreases-loop
+slice-read-p : tie.Need-bounds-work-n invariant-loop decreases-loop
 slice-read-p c = omega (arith, bounds (entered c))
 
-cast-p : tie.Need-overflow-cast-p invariant-loop decreases-loop
+cast-p : tie.Need-overflow_cast-p invariant-loop decreases-loop
 cast-p c = omega (arith, bounds (entered c))
 
-on-edge-requires : tie.Need-on-edge-requires invariant-loop decreases-loop
-on-edge-requires c κs = let s = entered c in let z = s.pre.0.0.filled.sized in ((bounds s).on, z.rows, z.cols)
+on-edge-requires : tie.Need-on_edge-border-requires invariant-loop decreases-loop
+on-edge-requires c κs = let s = entered c in let z = s.requires.0.0.filled.sized in ((bounds s).on, z.rows, z.cols)
 
-loop-holds : tie.Need-loop-init invariant-loop decreases-loop
+loop-holds : tie.Need-loop-k-init invariant-loop decreases-loop
 loop-holds c =
     let s = entered c.before in
     let a = s.args in
-    (subst (λ (x : ℕ). Turn a.g.h a.g.w a.g.steps (old s) a.from a.head x 0 (old s) a.from) (sym (place_is s)) (turn_start s.pre.0.0 s.pre.0.2 s.pre.1.0), s.pre.0.1, zero-le)
+    (subst (λ (x : ℕ). Turn a.g.h a.g.w a.g.steps (old s) a.from a.head x 0 (old s) a.from) (sym (place_is s)) (turn_start s.requires.0.0 s.requires.0.2 s.requires.1.0), s.requires.0.1, zero-le)
 
-abbrev start : tie.At-loop invariant-loop decreases-loop → S
+abbrev start : tie.At-loop-k invariant-loop decreases-loop → S
 start c = entered c.before.before
 
 -- the paint of the place is the code's still
-paint_is : (l : tie.At-loop invariant-loop decreases-loop) → let s = start l in plane (n s) 0 (seen (n s) l.loop.work) (place s) ≡ s.args.code - 264196
+paint_is : (l : tie.At-loop-k invariant-loop decreases-loop) → let s = start l in plane (n s) 0 (seen (n s) l.loop-k.work) (place s) ≡ s.args.code - 264196
 paint_is l =
     let s = start l in
-    l.loop.invariant.0.since.kept.others 0 (place s) (inl refl) (bounds s).on
-    ∙ ap (plane (n s) 0 (old s)) (place_is s) ∙ s.pre.0.2.alike s.args.head (le_refl _) s.pre.1.0
+    l.loop-k.invariant.0.since.kept.others 0 (place s) (inl refl) (bounds s).on
+    ∙ ap (plane (n s) 0 (old s)) (place_is s) ∙ s.requires.0.2.alike s.args.head (le_refl _) s.requires.1.0
 
 -- a step is left to take
-more : (c : tie.Else1 invariant-loop decreases-loop) → let l = c.before.before in l.loop.k < (start l).args.g.steps
-more c = let l = c.before.before in omega (arith, l.loop.invariant.2, c.if1.false)
+more : (c : tie.Else-k-steps invariant-loop decreases-loop) → let l = c.before.before in l.loop-k.k < (start l).args.g.steps
+more c = let l = c.before.before in omega (arith, l.loop-k.invariant.2, c.if-k-steps.false)
 
-mul-o : tie.Need-overflow-mul-o invariant-loop decreases-loop
-mul-o c = omega (arith, c.before.loop-test.true)
+mul-o : tie.Need-offset_bounds-offsets-k invariant-loop decreases-loop
+mul-o c = omega (arith, c.before.loop-k-test.true)
 
-array-copy-out-o : tie.Need-array-copy-out-o invariant-loop decreases-loop
-array-copy-out-o c = omega (arith, c.before.loop-test.true)
+array-copy-out-o : tie.Need-bounds-offsets-k invariant-loop decreases-loop
+array-copy-out-o c = omega (arith, c.before.loop-k-test.true)
 
-array-copy-out-dy : tie.Need-array-copy-out-dy invariant-loop decreases-loop
+array-copy-out-dy : tie.Need-bounds-o-0 invariant-loop decreases-loop
 array-copy-out-dy c = search rules
 
-array-copy-out-dx : tie.Need-array-copy-out-dx invariant-loop decreases-loop
+array-copy-out-dx : tie.Need-bounds-o-1 invariant-loop decreases-loop
 array-copy-out-dx c = search rules
 
 -- the turn that took a step
-abbrev took : tie.After-dx invariant-loop decreases-loop → tie.Else1 invariant-loop decreases-loop
+abbrev took : tie.After-dx-1 invariant-loop decreases-loop → tie.Else-k-steps invariant-loop decreases-loop
 took c = c.before.before.before
 
-abbrev turn : tie.After-dx invariant-loop decreases-loop → tie.In-loop invariant-loop decreases-loop
+abbrev turn : tie.After-dx-1 invariant-loop decreases-loop → tie.In-loop-k invariant-loop decreases-loop
 turn c = (took c).before
 
 -- the offsets as they are handed over
-rows_fit : (c : tie.After-dx invariant-loop decreases-loop) → SFits w32 (rows_of (turn c).before.loop.k)
-rows_fit c = record { sfits = c.before.dy.given }
+rows_fit : (c : tie.After-dx-1 invariant-loop decreases-loop) → SFits w32 (rows_of (turn c).before.loop-k.k)
+rows_fit c = record { sfits = c.before.dy-1.given }
 
-cols_fit : (c : tie.After-dx invariant-loop decreases-loop) → SFits w32 (cols_of (turn c).before.loop.k)
-cols_fit c = record { sfits = c.dx.given }
+cols_fit : (c : tie.After-dx-1 invariant-loop decreases-loop) → SFits w32 (cols_of (turn c).before.loop-k.k)
+cols_fit c = record { sfits = c.dx-1.given }
 
 -- what the place's test told
-border : (l : tie.At-loop invariant-loop decreases-loop) → l.before.on_edge.result ≡ false → let s = start l in Inner s.args.g.h s.args.g.w (place s)
-border l = let s = start l in off_border s.args.g.h s.args.g.w (place s) (bounds s).on l.before.on_edge.ensures
+border : (l : tie.At-loop-k invariant-loop decreases-loop) → l.before.on_edge-border.result ≡ false → let s = start l in Inner s.args.g.h s.args.g.w (place s)
+border l = let s = start l in off_border s.args.g.h s.args.g.w (place s) (bounds s).on l.before.on_edge-border.ensures
 
-visit-requires : tie.Need-visit-requires invariant-loop decreases-loop
+visit-requires : tie.Need-visit-t-requires invariant-loop decreases-loop
 visit-requires c κs =
     let d = c.before in
     let l = (turn d).before in
     let s = start l in
-    let u = l.loop.inv.0 in
+    let u = l.loop-k.invariant.0 in
     let f = u.flood.filled in
-    let o = offset_single l.loop.k (omega (arith, (turn d).loop-test.true)) in (
-      ((bounds s).on, f.sized.rows, f.sized.cols, omega (arith, f.sized.planes, seen_size (n s) l.loop.work)),
+    let o = offset_single l.loop-k.k (omega (arith, (turn d).loop-k-test.true)) in (
+      ((bounds s).on, f.sized.rows, f.sized.cols, omega (arith, f.sized.planes, seen_size (n s) l.loop-k.work)),
       (
         (rw (to_z-of_z (rows_fit d)) o.0, rw (to_z-of_z (cols_fit d)) o.1, border l),
         (
           (f.order.free, u.flood.some, omega (arith, f.under, f.order.free, (bounds s).few)),
-          (l.loop.inv.1, s.pre.1.1),
+          (l.loop-k.invariant.1, s.requires.1.1),
         ),
       ),
     )
 
 -- the step is taken
-abbrev stepped : tie.After-slice-known3 invariant-loop decreases-loop → tie.After-dx invariant-loop decreases-loop
+abbrev stepped : tie.After-slice_known-in-loop-k-1 invariant-loop decreases-loop → tie.After-dx-1 invariant-loop decreases-loop
 stepped c = c.before.before.before.before
 
-add-k : tie.Need-overflow-add-k invariant-loop decreases-loop
-add-k c = omega (arith, (turn (stepped c)).loop-test.taken)
+add-k : tie.Need-overflow_step-k invariant-loop decreases-loop
+add-k c = omega (arith, (turn (stepped c)).loop-k-test.true)
 
-loop-less : tie.Need-loop-smaller invariant-loop decreases-loop
-loop-less c = omega (arith, (turn (stepped c)).loop-test.taken)
+loop-less : tie.Need-loop-k-smaller invariant-loop decreases-loop
+loop-less c = omega (arith, (turn (stepped c)).loop-k-test.true)
 
-loop-again : tie.Need-loop-preserved invariant-loop decreases-loop
+loop-again : tie.Need-loop-k-preserved invariant-loop decreases-loop
 loop-again c =
     let d = stepped c in
     let l = (turn d).before in
-    let e = c.before.before.visit.ensures in (
-      turn_on l.loop.inv.0 (start l).pre.1.0 (more (took d)) (rw (to_z-of_z (rows_fit d), to_z-of_z (cols_fit d), sym (paint_is l)) at e.0),
+    let e = c.before.before.visit-t.ensures in (
+      turn_on l.loop-k.invariant.0 (start l).requires.1.0 (more (took d)) (rw (to_z-of_z (rows_fit d), to_z-of_z (cols_fit d), sym (paint_is l)) at e.0),
       e.1,
       omega (arith, more (took d)),
     )
 
 -- there are at most eight steps
 few-steps : (s : S) → s.args.g.steps ≤ 8
-few-steps s = ⊎_elim (λ e. omega arith) (λ e. omega arith) s.pre.0.0.filled.sized.count
+few-steps s = ⊎_elim (λ e. omega arith) (λ e. omega arith) s.requires.0.0.filled.sized.count
 
-same_length : tie.Need-same-length invariant-loop decreases-loop
-same_length c = seen-length _ _ _ c.before.before.loop.invariant.0.since.kept.size
+same_length : tie.Need-shape_of-work-then-k-steps invariant-loop decreases-loop
+same_length c = seen-length _ _ _ c.before.before.loop-k.invariant.0.since.kept.size
 
 -- all steps are taken
-abbrev Ended : tie.At-loop invariant-loop decreases-loop → Type 0
+abbrev Ended : tie.At-loop-k invariant-loop decreases-loop → Type 0
 Ended l =
     let s = start l in
     let g = s.args.g in
-    let now = seen (n s) l.loop.work in
-    (Flood g.h g.w g.steps now (s.args.head + 1) l.loop.t × Coded (n s) l.loop.work × Tinted (n s) now (s.args.head + 1) l.loop.t.taken (s.args.code - 264196))
-    × (Since (n s) (old s) now × ((l.loop.t.regions ≡ s.args.from.regions) × (s.args.from.taken ≤ l.loop.t.taken)))
+    let now = seen (n s) l.loop-k.work in
+    (Flood g.h g.w g.steps now (s.args.head + 1) l.loop-k.t × Coded (n s) l.loop-k.work × Tinted (n s) now (s.args.head + 1) l.loop-k.t.true (s.args.code - 264196))
+    × (Since (n s) (old s) now × ((l.loop-k.t.regions ≡ s.args.from.regions) × (s.args.from.true ≤ l.loop-k.t.true)))
 
-ended : (l : tie.At-loop invariant-loop decreases-loop) → (start l).args.g.steps ≤ l.loop.k → Ended l
+ended : (l : tie.At-loop-k invariant-loop decreases-loop) → (start l).args.g.steps ≤ l.loop-k.k → Ended l
 ended l z =
-    let u = l.loop.invariant.0 in
-    ((turn_off u (start l).requires.1.0 z, l.loop.invariant.1, record { alike = λ i lo hi. u.alike i (omega arith) hi ∙ paint_is l }), (u.since, (u.regions, u.taken)))
+    let u = l.loop-k.invariant.0 in
+    ((turn_off u (start l).requires.1.0 z, l.loop-k.invariant.1, record { alike = λ i lo hi. u.alike i (omega arith) hi ∙ paint_is l }), (u.since, (u.regions, u.taken)))
 
-returns : tie.Need-returns invariant-loop decreases-loop
-returns c = ended c.before.before (omega (arith, c.if1.true))
+returns : tie.Need-returns-then-k-steps invariant-loop decreases-loop
+returns c = ended c.before.before (omega (arith, c.if-k-steps.true))
 
-same-length-2 : tie.Need-same-length-2 invariant-loop decreases-loop
-same-length-2 c = seen-length _ _ _ c.before.loop.invariant.0.since.kept.size
+same-length-2 : tie.Need-shape_of-work invariant-loop decreases-loop
+same-length-2 c = seen-length _ _ _ c.before.loop-k.invariant.0.since.kept.size
 
-returns-2 : tie.Need-returns-2 invariant-loop decreases-loop
-returns-2 c = ended c.before (omega (arith, few-steps (start c.before), c.loop-test.false))
+returns-2 : tie.Need-returns invariant-loop decreases-loop
+returns-2 c = ended c.before (omega (arith, few-steps (start c.before), c.loop-k-test.false))
 
-pub visit-all-spec : {M : Type 1} → statement M
-visit-all-spec =
+pub visit_all_spec : {M : Type 1} → statement M
+visit_all_spec =
     tie.close
     (tie.spec
     invariant-loop

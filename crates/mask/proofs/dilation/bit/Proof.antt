@@ -5,13 +5,15 @@ use Rattle.mask.specs.Lines.{bit_of}
 use Rattle.mask.proofs.dilation.bit.Statement.{statement}
 use Rattle.mask.proofs.dilation.bit.Tie as tie
 
-returns : tie.Need-returns
+returns : tie.Need-returns-then-v-eq0
 unfolding bit_of is_set
-returns c = simp (eq-eqb _ _ c.if1.true)
+returns c = simp (eq-eqb _ _ c.if-v-eq0.true)
 
-returns-2 : tie.Need-returns-2
+returns-2 : tie.Need-returns-else-v-eq0
 unfolding bit_of is_set
-returns-2 c = simp (ne_eqb _ _ c.if1.false)
+returns-2 c = simp (ne_eqb _ _ c.if-v-eq0.false)
 
-pub bit-spec : {M : Type 1} → statement M
-bit-spec = tie.close (tie.spec returns returns-2)
+pub bit_spec : {M : Type 1} → statement M
+bit_spec = tie.close (tie.spec
+    returns
+    returns-2)

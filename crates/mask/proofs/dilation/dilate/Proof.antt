@@ -6,30 +6,35 @@ use borrow.Author.Rules.{rules}
 use Rattle.mask.proofs.dilation.dilate.Statement.{statement}
 use Rattle.mask.proofs.dilation.dilate.Tie as tie
 
-count-rows-requires : tie.Need-count-rows-requires
+count-rows-requires : tie.Need-count_rows-requires
 count-rows-requires c κs = search rules
 
 -- where the rows are counted
-abbrev counted : tie.After-store-arg2 → tie.After-count-rows
+abbrev counted : tie.After-store-arg2 → tie.After-count_rows
 counted c = c.before.before.before.before
 
-abbrev start : tie.After-count-rows-arg → tie.Start
+abbrev start : tie.After-count_rows-arg-1 → tie.Start
 start c = c.before.before.before.before
 
 store-requires : tie.Need-store-requires
-store-requires c κs = let s = start (counted c).before in omega (arith, room _ _ _ s.pre.0.2 s.pre.1.2)
+store-requires c κs = let s = start (counted c).before in omega (arith, room _ _ _ s.requires.0.2 s.requires.1.2)
 
-same_length : tie.Need-same-length
+same_length : tie.Need-shape_of-out
 same_length c = search rules
 
-same-length-2 : tie.Need-same-length-2
+same-length-2 : tie.Need-shape_of-work
 same-length-2 c = search rules
 
 returns : tie.Need-returns
 returns c =
     let stored = c.before.before in
-    dilation_is _ (omega arith) (counted stored.before).count-rows.ensures stored.store.ensures
+    dilation_is _ (omega arith) (counted stored.before).count_rows.ensures stored.store.ensures
 
-pub dilate-spec : {M : Type 1} → statement M
-dilate-spec =
-    tie.close (tie.spec count-rows-requires store-requires same_length same-length-2 returns)
+pub dilate_spec : {M : Type 1} → statement M
+dilate_spec =
+    tie.close (tie.spec
+    count-rows-requires
+    store-requires
+    same_length
+    same-length-2
+    returns)

@@ -9,13 +9,16 @@ use Rattle.mask.proofs.dilation.reach.Tie as tie
 greater-requires : tie.Need-greater-requires
 greater-requires c κs = search rules
 
-returns : tie.Need-returns
+returns : tie.Need-returns-then-iterations-eq0
 unfolding reach_of
-returns c = c.greater.ensures ∙ simp (eq-eqb _ _ c.before.if1.true)
+returns c = c.greater.ensures ∙ simp (eq-eqb _ _ c.before.if-iterations-eq0.true)
 
-returns-2 : tie.Need-returns-2
+returns-2 : tie.Need-returns-else-iterations-eq0
 unfolding reach_of
-returns-2 c = simp (ne_eqb _ _ c.if1.false)
+returns-2 c = simp (ne_eqb _ _ c.if-iterations-eq0.false)
 
-pub reach-spec : {M : Type 1} → statement M
-reach-spec = tie.close (tie.spec greater-requires returns returns-2)
+pub reach_spec : {M : Type 1} → statement M
+reach_spec = tie.close (tie.spec
+    greater-requires
+    returns
+    returns-2)

@@ -19,61 +19,61 @@ use Rattle.mask.proofs.Cells.{mask_painted, bits_small}
 use Rattle.mask.proofs.label.label4.Statement.{statement}
 use Rattle.mask.proofs.label.label4.Tie as tie
 
-grid-refusal-requires : tie.Need-grid-refusal-requires
+grid-refusal-requires : tie.Need-grid_refusal-requires
 grid-refusal-requires c κs = search rules
 
-enum-known-row : tie.Need-enum-known-row
+enum-known-row : tie.Need-enum_known-row
 enum-known-row c = search rules
 
-returns : tie.Need-returns
+returns : tie.Need-returns-in-Refused
 unfolding mask_refusal mask_answer mask_labels labelling
 returns c =
-    let e = filling_some c.before.before.before.grid-refusal.ensures c.before.row.given.1 in
+    let e = filling_some c.before.before.before.grid_refusal.ensures c.before.row-1.given.1 in
     (some_unless _ _ e, some_unless _ _ e)
 
-enum_told : tie.Need-enum-told
+enum_told : tie.Need-enum_told-1
 enum_told c = search rules
 
-abbrev start : tie.After-enum-told → tie.Start
+abbrev start : tie.In_default → tie.Start
 start c = c.before.before.before.before.before.before
 
-clear : (c : tie.After-enum-told) → let a = (start c).args in grid_refusal a.h a.w (length a.mask.now) (length a.labels.now) (length a.work.now) [] ≡ none
-clear c = filling_none c.before.before.grid-refusal.ensures c.enum_told.given.1
+clear : (c : tie.In_default) → let a = (start c).args in grid_refusal a.h a.w (length a.mask.now) (length a.labels-1.now) (length a.work-1.now) [] ≡ none
+clear c = filling_none c.before.before.grid_refusal.ensures c.enum_told-1.given.1
 
-fit : (c : tie.After-enum-told) → let a = (start c).args in Room a.h a.w (a.h * a.w) (length a.mask.now) (length a.work.now) × (a.h * a.w ≤ length a.labels.now)
+fit : (c : tie.In_default) → let a = (start c).args in Room a.h a.w (a.h * a.w) (length a.mask.now) (length a.work-1.now) × (a.h * a.w ≤ length a.labels-1.now)
 fit c = grid_room (clear c)
 
-mul-n : tie.Need-overflow-mul-n
+mul-n : tie.Need-overflow_mul-n
 mul-n c = omega (arith, (fit c).0.few)
 
 paint-requires : tie.Need-paint-requires
 paint-requires c κs = let f = fit c.before in (f.0.held, omega (arith, f.0.free))
 
-abbrev painting : tie.After-label-into-arg2 → tie.After-paint
+abbrev painting : tie.After-label_into-arg-2-1 → tie.After-paint
 painting c = c.before.before.before.before
 
-label-into-requires : tie.Need-label-into-requires
+label-into-requires : tie.Need-label_into-count-requires
 label-into-requires c κs =
     let p = painting c in
     let a = (start p.before.before).args in
     let f = fit p.before.before in (
       (record { rows = omega (arith, f.0.high); cols = omega (arith, f.0.wide); count = search (inl, inr); planes = omega (arith, f.0.free, p.paint.kept.1.1.0) }, f.1),
-      bits_small a.mask.now a.work.now p.paint.last.1.1.0 (a.h * a.w) p.paint.ensures,
+      bits_small a.mask.now a.work-1.now p.paint.last.1.1.0 (a.h * a.w) p.paint.ensures,
     )
 
-same_length : tie.Need-same-length
+same_length : tie.Need-shape_of-labels
 same_length c = search rules
 
-same-length-2 : tie.Need-same-length-2
+same-length-2 : tie.Need-shape_of-work
 same-length-2 c = search rules
 
 -- plane 0 once it is painted
-painted : (c : tie.After-paint) → let a = (start c.before.before).args in Painted (mask_cells (take (a.h * a.w) a.mask.now)) (a.h * a.w) c.paint.new.1.1.0
+painted : (c : tie.After-paint) → let a = (start c.before.before).args in Painted (mask_cells (take (a.h * a.w) a.mask.now)) (a.h * a.w) c.paint.new.work
 painted c =
     let a = (start c.before.before).args in
-    subst (Painted (mask_cells (take (a.h * a.w) a.mask.now)) (a.h * a.w)) (sym c.paint.ensures) (mask_painted a.mask.now a.work.now (a.h * a.w) (fit c.before.before).0.held)
+    subst (Painted (mask_cells (take (a.h * a.w) a.mask.now)) (a.h * a.w)) (sym c.paint.ensures) (mask_painted a.mask.now a.work-1.now (a.h * a.w) (fit c.before.before).0.held)
 
-returns-2 : tie.Need-returns-2
+returns-2 : tie.Need-returns
 unfolding mask_refusal mask_answer mask_labels labelling
 returns-2 c =
     let i = c.before.before.before.before in
@@ -81,10 +81,10 @@ returns-2 c =
     let s = painted p in
     let e = neighbours-four (start p.before.before).args.w refl in
     let z = clear p.before.before in
-    (none_unless _ _ z (ap Regions (i.label-into.ensures.0 ∙ painted-regions s e)), none_unless _ _ z (i.label-into.ensures.1 ∙ painted_labels s e _))
+    (none_unless _ _ z (ap Regions (i.label_into-count.ensures.0 ∙ painted-regions s e)), none_unless _ _ z (i.label_into-count.ensures.1 ∙ painted_labels s e _))
 
-pub label4-spec : {M : Type 1} → statement M
-label4-spec =
+pub label4_spec : {M : Type 1} → statement M
+label4_spec =
     tie.close
     (tie.spec
     grid-refusal-requires

@@ -10,49 +10,49 @@ use Rattle.mask.proofs.Turns.{Turns, fill_turn}
 use Rattle.mask.proofs.label.paint.Statement.{statement}
 use Rattle.mask.proofs.label.paint.Tie as tie
 
-abbrev invariant-loop : tie.invariant-loop
+abbrev invariant-loop : tie.invariant-loop-i
 invariant-loop mask n work₀ i₀ work i = Turns i n work₀ work (work ≡ filled i (λ p. bit_of (get_or mask p 0)) work₀)
 
-abbrev decreases-loop : tie.decreases-loop
+abbrev decreases-loop : tie.decreases-loop-i
 decreases-loop mask n work₀ i₀ work i = n - i
 
-loop-holds : tie.Need-loop-init invariant-loop decreases-loop
+loop-holds : tie.Need-loop-i-init invariant-loop decreases-loop
 loop-holds c = record { below = omega arith; same = refl; done = filled_none _ _ }
 
-shared-slice-read-v : tie.Need-shared-slice-read-v invariant-loop decreases-loop
+shared-slice-read-v : tie.Need-bounds-mask-i invariant-loop decreases-loop
 shared-slice-read-v c = omega arith
 
-cast-v : tie.Need-overflow-cast-v invariant-loop decreases-loop
-cast-v c = omega (arith, c.shared-slice-known2.given c.before.before.loop.i)
+cast-v : tie.Need-overflow_cast-v invariant-loop decreases-loop
+cast-v c = omega (arith, c.shared_slice_known-in-loop-i-1.given c.before.before.loop-i.i)
 
 bit-requires : tie.Need-bit-requires invariant-loop decreases-loop
 bit-requires c κs = tt
 
-mul-work : tie.Need-overflow-mul-work invariant-loop decreases-loop
+mul-work : tie.Need-offset_bounds-work-i invariant-loop decreases-loop
 mul-work c = omega arith
 
-slice-write-work : tie.Need-slice-write-work invariant-loop decreases-loop
+slice-write-work : tie.Need-bounds-work-i invariant-loop decreases-loop
 slice-write-work c = omega arith
 
-add-i : tie.Need-overflow-add-i invariant-loop decreases-loop
+add-i : tie.Need-overflow_step-i invariant-loop decreases-loop
 add-i c = omega arith
 
-loop-less : tie.Need-loop-smaller invariant-loop decreases-loop
+loop-less : tie.Need-loop-i-smaller invariant-loop decreases-loop
 loop-less c = omega arith
 
-loop-again : tie.Need-loop-preserved invariant-loop decreases-loop
-loop-again c = let i = c.before.before in fill_turn _ _ i.before.loop.invariant i.loop-test.true (omega arith) c.bit.ensures
+loop-again : tie.Need-loop-i-preserved invariant-loop decreases-loop
+loop-again c = let i = c.before.before in fill_turn _ _ i.before.loop-i.invariant i.loop-i-test.true (omega arith) c.bit.ensures
 
-same_length : tie.Need-same-length invariant-loop decreases-loop
-same_length c = c.before.loop.invariant.same
+same_length : tie.Need-shape_of-work invariant-loop decreases-loop
+same_length c = c.before.loop-i.invariant.same
 
 returns : tie.Need-returns invariant-loop decreases-loop
 returns c =
-    let all : c.before.loop.i ≡ c.before.before.before.before.args.n = omega arith in
-    rw all at c.before.loop.invariant.done
+    let all : c.before.loop-i.i ≡ c.before.before.before.before.args.n = omega arith in
+    rw all at c.before.loop-i.invariant.done
 
-pub paint-spec : {M : Type 1} → statement M
-paint-spec =
+pub paint_spec : {M : Type 1} → statement M
+paint_spec =
     tie.close
     (tie.spec
     invariant-loop

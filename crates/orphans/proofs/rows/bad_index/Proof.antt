@@ -7,14 +7,17 @@ use borrow.Author.Rules.{rules}
 use Rattle.orphans.proofs.rows.bad_index.Statement.{statement}
 use Rattle.orphans.proofs.rows.bad_index.Tie as tie
 
-returns : tie.Need-returns
-returns c = rw (below c.before.args.region (rw (to_z-of_z c.before.ranges.region) at c.if1.true))
+returns : tie.Need-returns-then-region-lt2
+returns c = rw (below c.before.args.region (rw (to_z-of_z c.before.ranges.region) at c.if-region-lt2.true))
 
-bad-index-requires : tie.Need-bad-index-requires
+bad-index-requires : tie.Need-bad_index-requires
 bad-index-requires c κs = search rules
 
-returns-2 : tie.Need-returns-2
-returns-2 c = let s = c.before.before in rw (not_below s.args.region (rw (to_z-of_z s.ranges.region) at c.before.if1.false)) (c.bad-index.ensures ∙ in_front s.args.n s.args.k s.args.cells.now)
+returns-2 : tie.Need-returns
+returns-2 c = let s = c.before.before in rw (not_below s.args.region (rw (to_z-of_z s.ranges.region) at c.before.if-region-lt2.false)) (c.bad_index.ensures ∙ in_front s.args.n s.args.k s.args.cells.now)
 
-pub bad-index-spec : {M : Type 1} → statement M
-bad-index-spec = tie.close (tie.spec returns bad-index-requires returns-2)
+pub bad_index_spec : {M : Type 1} → statement M
+bad_index_spec = tie.close (tie.spec
+    returns
+    bad-index-requires
+    returns-2)

@@ -16,61 +16,61 @@ use Rattle.orphans.proofs.starting.any_small.Tie as tie
 abbrev less : ℕ → List ℕ → ℕ → ℕ → Bool
 less n work limit at = ltb (size_of n work (suc at)) limit
 
-abbrev invariant-loop : tie.invariant-loop
+abbrev invariant-loop : tie.invariant-loop-at
 invariant-loop work n count limit at₀ at = (any at (less n work limit) ≡ false) × (at ≤ count)
 
-abbrev decreases-loop : tie.decreases-loop
+abbrev decreases-loop : tie.decreases-loop-at
 decreases-loop work n count limit at₀ at = count - at
 
-abbrev turn : tie.After-region-size invariant-loop decreases-loop → tie.In-loop invariant-loop decreases-loop
+abbrev turn : tie.After-region_size invariant-loop decreases-loop → tie.In-loop-at invariant-loop decreases-loop
 turn c = c.before
 
-abbrev start : tie.In-loop invariant-loop decreases-loop → tie.Start invariant-loop decreases-loop
+abbrev start : tie.In-loop-at invariant-loop decreases-loop → tie.Start invariant-loop decreases-loop
 start c = c.before.before.before
 
-size_is : (c : tie.After-region-size invariant-loop decreases-loop) → c.region-size.result ≡ size_of (start (turn c)).args.n (start (turn c)).args.work.now (suc (turn c).before.loop.at)
+size_is : (c : tie.After-region_size invariant-loop decreases-loop) → c.region_size.result ≡ size_of (start (turn c)).args.n (start (turn c)).args.work.now (suc (turn c).before.loop-at.at)
 unfolding size_of
-size_is c = let e : suc (turn c).before.loop.at - 1 ≡ (turn c).before.loop.at = omega arith in rw e c.region-size.ensures
+size_is c = let e : suc (turn c).before.loop-at.at - 1 ≡ (turn c).before.loop-at.at = omega arith in rw e c.region_size.ensures
 
-returns : tie.Need-returns invariant-loop decreases-loop
+returns : tie.Need-returns-then-region_size-limit invariant-loop decreases-loop
 returns c =
     let r = c.before in
     let i = turn r in
     let s = start i in
-    sym (yes_any s.args.count (less s.args.n s.args.work.now s.args.limit) i.before.loop.at i.loop-test.taken (lt-ltb (size_of s.args.n s.args.work.now (suc i.before.loop.at)) s.args.limit (omega (arith, size_is r, c.if1.true))))
+    sym (yes_any s.args.count (less s.args.n s.args.work.now s.args.limit) i.before.loop-at.at i.loop-at-test.true (lt-ltb (size_of s.args.n s.args.work.now (suc i.before.loop-at.at)) s.args.limit (omega (arith, size_is r, c.if-region_size-limit.true))))
 
-loop-again : tie.Need-loop-preserved invariant-loop decreases-loop
+loop-again : tie.Need-loop-at-preserved invariant-loop decreases-loop
 unfolding any
 loop-again c =
     let r = c.before in
     let i = turn r in
     let s = start i in
-    let z : less s.args.n s.args.work.now s.args.limit i.before.loop.at ≡ false = le-ltb (size_of s.args.n s.args.work.now (suc i.before.loop.at)) s.args.limit (omega (arith, size_is r, c.if1.false)) in
-    (rw (add-one i.before.loop.at, z) i.before.loop.inv.0, omega (arith, i.loop-test.taken))
+    let z : less s.args.n s.args.work.now s.args.limit i.before.loop-at.at ≡ false = le-ltb (size_of s.args.n s.args.work.now (suc i.before.loop-at.at)) s.args.limit (omega (arith, size_is r, c.if-region_size-limit.false)) in
+    (rw (add-one i.before.loop-at.at, z) i.before.loop-at.invariant.0, omega (arith, i.loop-at-test.true))
 
-returns-2 : tie.Need-returns-2 invariant-loop decreases-loop
+returns-2 : tie.Need-returns invariant-loop decreases-loop
 returns-2 c =
     let s = c.before.before.before in
-    let e : c.before.loop.at ≡ s.args.count = omega (arith, c.before.loop.invariant.1, c.loop-test.false) in
-    sym c.before.loop.invariant.0 ∙ ap (λ (x : ℕ). any x (less s.args.n s.args.work.now s.args.limit)) e
+    let e : c.before.loop-at.at ≡ s.args.count = omega (arith, c.before.loop-at.invariant.1, c.loop-at-test.false) in
+    sym c.before.loop-at.invariant.0 ∙ ap (λ (x : ℕ). any x (less s.args.n s.args.work.now s.args.limit)) e
 
-loop-holds : tie.Need-loop-init invariant-loop decreases-loop
+loop-holds : tie.Need-loop-at-init invariant-loop decreases-loop
 unfolding any
 loop-holds c = (refl, omega arith)
 
-region-size-requires : tie.Need-region-size-requires invariant-loop decreases-loop
+region-size-requires : tie.Need-region_size-requires invariant-loop decreases-loop
 region-size-requires c κs =
     let s = start c in
-    (s.pre.0.0, s.pre.0.1, s.pre.1 c.before.loop.at c.loop-test.true)
+    (s.requires.0.0, s.requires.0.1, s.requires.1 c.before.loop-at.at c.loop-at-test.true)
 
-add_at : tie.Need-overflow-add-at invariant-loop decreases-loop
-add_at c = omega (arith, (turn c.before).loop-test.taken)
+add_at : tie.Need-overflow_step-at invariant-loop decreases-loop
+add_at c = omega (arith, (turn c.before).loop-at-test.true)
 
-loop-less : tie.Need-loop-smaller invariant-loop decreases-loop
-loop-less c = omega (arith, (turn c.before).loop-test.taken)
+loop-less : tie.Need-loop-at-smaller invariant-loop decreases-loop
+loop-less c = omega (arith, (turn c.before).loop-at-test.true)
 
-pub any-small-spec : {M : Type 1} → statement M
-any-small-spec =
+pub any_small_spec : {M : Type 1} → statement M
+any_small_spec =
     tie.close
     (tie.spec
     invariant-loop

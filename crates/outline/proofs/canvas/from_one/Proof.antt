@@ -5,13 +5,15 @@ use Rattle.outline.specs.Room.{from_one}
 use Rattle.outline.proofs.canvas.from_one.Statement.{statement}
 use Rattle.outline.proofs.canvas.from_one.Tie as tie
 
-returns : tie.Need-returns
+returns : tie.Need-returns-then-a-ge1
 unfolding from_one
-returns c = rw (le-leb _ _ c.if1.true)
+returns c = rw (le-leb _ _ c.if-a-ge1.true)
 
-returns-2 : tie.Need-returns-2
+returns-2 : tie.Need-returns-else-a-ge1
 unfolding from_one
-returns-2 c = rw (lt-leb _ _ c.if1.false)
+returns-2 c = rw (lt-leb _ _ c.if-a-ge1.false)
 
-pub from-one-spec : {M : Type 1} → statement M
-from-one-spec = tie.close (tie.spec returns returns-2)
+pub from_one_spec : {M : Type 1} → statement M
+from_one_spec = tie.close (tie.spec
+    returns
+    returns-2)

@@ -14,36 +14,44 @@ use Rattle.outline.proofs.canvas.pad_cell.Tie as tie
 on : (s : tie.Start) → let a = s.args in (a.y * (a.w + 2) + a.x < (a.h + 2) * (a.w + 2)) × ((a.h + 2) * (a.w + 2) ≤ 264196)
 on s = (place_in_lem _ _ _ _ s.requires.1.0 s.requires.1.1, area-fits _ _ (omega arith) (omega arith))
 
-add-p : tie.Need-overflow-add-p
+add-p : tie.Need-overflow_add-p
 add-p c = search rules
 
-mul-p : tie.Need-overflow-mul-p
+mul-p : tie.Need-overflow_mul-p
 mul-p c = record { fits = omega (arith, on c) }
 
-add-p-2 : tie.Need-overflow-add-p-2
+add-p-2 : tie.Need-overflow_add-p-2
 add-p-2 c = record { fits = omega (arith, on c) }
 
-padded-cell-requires : tie.Need-padded-cell-requires
+padded-cell-requires : tie.Need-padded_cell-c-requires
 padded-cell-requires c κs = search rules
 
-mul-c : tie.Need-overflow-mul-c
+mul-c : tie.Need-offset_bounds-cells-p
 mul-c c = record { fits = omega (arith, on c.before.before) }
 
-slice-set-from-c : tie.Need-slice-set-from-c
+slice-set-from-c : tie.Need-bounds-cells-p
 slice-set-from-c c =
     let s = c.before.before in
     omega (arith, (on s).0, s.requires.0.2)
 
-same_length : tie.Need-same-length
+same_length : tie.Need-shape_of-cells
 same_length c = search rules
 
 returns : tie.Need-returns
 returns c =
     let a = c.before.before.args in
     ap (set a.cells.now (a.y * (a.w + 2) + a.x))
-    (to_z-of_z {w = w32} {z = c.padded-cell.result} (record { sfits = c.padded-cell.type-inv }) ∙ c.padded-cell.ensures ∙ cell-padded _ _ _ _ _ c.before.before.requires.1.1)
+    (to_z-of_z {w = w32} {z = c.padded_cell-c.result} (record { sfits = c.padded_cell-c.type-inv }) ∙ c.padded_cell-c.ensures ∙ cell-padded _ _ _ _ _ c.before.before.requires.1.1)
 
-pub pad-cell-spec : {M : Type 1} → statement M
-pad-cell-spec =
+pub pad_cell_spec : {M : Type 1} → statement M
+pad_cell_spec =
     tie.close
-    (tie.spec add-p mul-p add-p-2 padded-cell-requires mul-c slice-set-from-c same_length returns)
+    (tie.spec
+    add-p
+    mul-p
+    add-p-2
+    padded-cell-requires
+    mul-c
+    slice-set-from-c
+    same_length
+    returns)

@@ -7,55 +7,55 @@ use Rattle.outline.proofs.Padding.{Row, pad_more, pad_ends}
 use Rattle.outline.proofs.canvas.pad_row.Statement.{statement}
 use Rattle.outline.proofs.canvas.pad_row.Tie as tie
 
-abbrev invariant-loop : tie.invariant-loop
+abbrev invariant-loop : tie.invariant-loop-x
 invariant-loop cells₀ h w y last x₀ cells x = (1 ≤ x) × (x ≤ w + 1) × Row h w y x cells₀ cells
 
-abbrev decreases-loop : tie.decreases-loop
+abbrev decreases-loop : tie.decreases-loop-x
 decreases-loop cells₀ h w y last x₀ cells x = w + 1 - x
 
-add-last : tie.Need-overflow-add-last invariant-loop decreases-loop
+add-last : tie.Need-overflow_add-last invariant-loop decreases-loop
 add-last c = omega arith
 
-loop-holds : tie.Need-loop-init invariant-loop decreases-loop
+loop-holds : tie.Need-loop-x-init invariant-loop decreases-loop
 loop-holds c = (omega arith, omega arith, span_none _ _ _ _)
 
-pad-cell-requires : tie.Need-pad-cell-requires invariant-loop decreases-loop
+pad-cell-requires : tie.Need-pad_cell-requires invariant-loop decreases-loop
 pad-cell-requires c κs =
     let l = c.before.before in
     let s = l.before.requires in
-    ((s.0.0, s.0.1, omega (arith, l.loop.invariant.2.size, s.0.2)), (s.1, omega arith))
+    ((s.0.0, s.0.1, omega (arith, l.loop-x.invariant.2.size, s.0.2)), (s.1, omega arith))
 
-add-x : tie.Need-overflow-add-x invariant-loop decreases-loop
+add-x : tie.Need-overflow_step-x invariant-loop decreases-loop
 add-x c = omega arith
 
-loop-less : tie.Need-loop-smaller invariant-loop decreases-loop
+loop-less : tie.Need-loop-x-smaller invariant-loop decreases-loop
 loop-less c = omega arith
 
-loop-again : tie.Need-loop-preserved invariant-loop decreases-loop
+loop-again : tie.Need-loop-x-preserved invariant-loop decreases-loop
 loop-again c =
     let r = c.before in
     let l = r.before.before.before in
     let s = l.before.requires in
-    (omega arith, omega arith, rw r.pad-cell.ensures (pad_more _ _ _ _ l.loop.invariant.2 s.1 s.0.2 l.loop.invariant.0 (omega arith)))
+    (omega arith, omega arith, rw r.pad_cell.ensures (pad_more _ _ _ _ l.loop-x.invariant.2 s.1 s.0.2 l.loop-x.invariant.0 (omega arith)))
 
-pad-cell-requires-2 : tie.Need-pad-cell-requires-2 invariant-loop decreases-loop
+pad-cell-requires-2 : tie.Need-pad_cell-requires-2 invariant-loop decreases-loop
 pad-cell-requires-2 c κs =
     let l = c.before.before in
     let s = l.before.requires in
-    ((s.0.0, s.0.1, omega (arith, l.loop.invariant.2.size, s.0.2)), (s.1, omega arith))
+    ((s.0.0, s.0.1, omega (arith, l.loop-x.invariant.2.size, s.0.2)), (s.1, omega arith))
 
-pad-cell-requires-3 : tie.Need-pad-cell-requires-3 invariant-loop decreases-loop
+pad-cell-requires-3 : tie.Need-pad_cell-requires-3 invariant-loop decreases-loop
 pad-cell-requires-3 c κs =
     let t = c.before.before in
     let l = t.before.before.before in
     let s = l.before.requires in
-    ((s.0.0, s.0.1, omega (arith, t.pad-cell2.auto.0, l.loop.invariant.2.size, s.0.2)), (s.1, omega arith))
+    ((s.0.0, s.0.1, omega (arith, t.pad_cell-2.auto.0, l.loop-x.invariant.2.size, s.0.2)), (s.1, omega arith))
 
-same_length : tie.Need-same-length invariant-loop decreases-loop
+same_length : tie.Need-shape_of-cells invariant-loop decreases-loop
 same_length c =
     let u = c.before in
     let t = u.before.before.before in
-    u.pad-cell3.auto.0 ∙ t.pad-cell2.auto.0 ∙ t.before.before.before.loop.invariant.2.size
+    u.pad_cell-3.auto.0 ∙ t.pad_cell-2.auto.0 ∙ t.before.before.before.loop-x.invariant.2.size
 
 returns : tie.Need-returns invariant-loop decreases-loop
 returns c =
@@ -63,10 +63,10 @@ returns c =
     let t = u.before.before.before in
     let l = t.before.before.before in
     let s = l.before.requires in
-    pad_ends _ _ _ _ l.loop.invariant.2 s.1 s.0.2 (omega arith) _ _ t.pad-cell2.ensures u.pad-cell3.ensures
+    pad_ends _ _ _ _ l.loop-x.invariant.2 s.1 s.0.2 (omega arith) _ _ t.pad_cell-2.ensures u.pad_cell-3.ensures
 
-pub pad-row-spec : {M : Type 1} → statement M
-pad-row-spec =
+pub pad_row_spec : {M : Type 1} → statement M
+pad_row_spec =
     tie.close
     (tie.spec
     invariant-loop

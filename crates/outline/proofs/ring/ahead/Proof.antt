@@ -6,19 +6,23 @@ use Rattle.outline.specs.Rows.{ahead}
 use Rattle.outline.proofs.ring.ahead.Statement.{statement}
 use Rattle.outline.proofs.ring.ahead.Tie as tie
 
-add-if1 : tie.Need-overflow-add-if1
+add-if1 : tie.Need-overflow_add-i
 add-if1 c = search rules
 
-add-result : tie.Need-overflow-add-result
+add-result : tie.Need-overflow_add-result
 add-result c = search rules
 
-returns : tie.Need-returns
+returns : tie.Need-returns-then-i-n
 unfolding ahead
-returns c = rw (lt-ltb _ _ c.if1.true)
+returns c = rw (lt-ltb _ _ c.if-i-n.true)
 
-returns-2 : tie.Need-returns-2
+returns-2 : tie.Need-returns
 unfolding ahead
-returns-2 c = rw (le-ltb _ _ c.if1.false)
+returns-2 c = rw (le-ltb _ _ c.if-i-n.false)
 
-pub ahead-spec : {M : Type 1} → statement M
-ahead-spec = tie.close (tie.spec add-if1 add-result returns returns-2)
+pub ahead_spec : {M : Type 1} → statement M
+ahead_spec = tie.close (tie.spec
+    add-if1
+    add-result
+    returns
+    returns-2)

@@ -6,16 +6,19 @@ use Rattle.outline.specs.Rows.{back}
 use Rattle.outline.proofs.ring.back.Statement.{statement}
 use Rattle.outline.proofs.ring.back.Tie as tie
 
-returns : tie.Need-returns
+returns : tie.Need-returns-then-i-eq0
 unfolding back
-returns c = rw (eq-eqb _ _ c.if1.true)
+returns c = rw (eq-eqb _ _ c.if-i-eq0.true)
 
-sub-result : tie.Need-overflow-sub-result
+sub-result : tie.Need-overflow_sub-result
 sub-result c = c.before.requires (omega arith)
 
-returns-2 : tie.Need-returns-2
+returns-2 : tie.Need-returns
 unfolding back
-returns-2 c = rw (ne_eqb _ _ c.if1.false)
+returns-2 c = rw (ne_eqb _ _ c.if-i-eq0.false)
 
-pub back-spec : {M : Type 1} → statement M
-back-spec = tie.close (tie.spec returns sub-result returns-2)
+pub back_spec : {M : Type 1} → statement M
+back_spec = tie.close (tie.spec
+    returns
+    sub-result
+    returns-2)

@@ -13,68 +13,68 @@ use Rattle.outline.proofs.Inking.{painted, Inks, inks_start, inks_step}
 use Rattle.outline.proofs.ring.ink.Statement.{statement}
 use Rattle.outline.proofs.ring.ink.Tie as tie
 
-abbrev invariant-loop : tie.invariant-loop
+abbrev invariant-loop : tie.invariant-loop-p
 invariant-loop cells₀ n marks index ink p₀ cells p = (p ≤ n) × Inks cells₀ marks index p cells
 
-abbrev decreases-loop : tie.decreases-loop
+abbrev decreases-loop : tie.decreases-loop-p
 decreases-loop cells₀ n marks index ink p₀ cells p = n - p
 
-cast-ink : tie.Need-overflow-cast-ink invariant-loop decreases-loop
+cast-ink : tie.Need-overflow_cast-ink invariant-loop decreases-loop
 cast-ink c = record { sfits = omega arith }
 
-loop-holds : tie.Need-loop-init invariant-loop decreases-loop
+loop-holds : tie.Need-loop-p-init invariant-loop decreases-loop
 loop-holds c = (omega arith, inks_start _ _ _)
 
-mul-tinted : tie.Need-overflow-mul-tinted invariant-loop decreases-loop
+mul-tinted : tie.Need-offset_bounds-marks-p invariant-loop decreases-loop
 mul-tinted c = record { fits = omega arith }
 
-shared-slice-read-tinted : tie.Need-shared-slice-read-tinted invariant-loop decreases-loop
+shared-slice-read-tinted : tie.Need-bounds-marks-p invariant-loop decreases-loop
 shared-slice-read-tinted c = omega arith
 
-mul-tinted-2 : tie.Need-overflow-mul-tinted-2 invariant-loop decreases-loop
+mul-tinted-2 : tie.Need-offset_bounds-cells-p invariant-loop decreases-loop
 mul-tinted-2 c = record { fits = omega arith }
 
-slice-copy-out-tinted : tie.Need-slice-copy-out-tinted invariant-loop decreases-loop
-slice-copy-out-tinted c = omega (arith, c.before.before.loop.invariant.1.size)
+slice-copy-out-tinted : tie.Need-slice_copy_out-tinted invariant-loop decreases-loop
+slice-copy-out-tinted c = omega (arith, c.before.before.loop-p.invariant.1.size)
 
-tinted-requires : tie.Need-tinted-requires invariant-loop decreases-loop
+tinted-requires : tie.Need-tinted-c-requires invariant-loop decreases-loop
 tinted-requires c κs = tt
 
-mul-c : tie.Need-overflow-mul-c invariant-loop decreases-loop
+mul-c : tie.Need-offset_bounds-cells-p-in-loop-p invariant-loop decreases-loop
 mul-c c = record { fits = omega arith }
 
-slice-set-from-c : tie.Need-slice-set-from-c invariant-loop decreases-loop
-slice-set-from-c c = omega (arith, c.before.before.before.before.loop.invariant.1.size)
+slice-set-from-c : tie.Need-bounds-cells-p invariant-loop decreases-loop
+slice-set-from-c c = omega (arith, c.before.before.before.before.loop-p.invariant.1.size)
 
-add-p : tie.Need-overflow-add-p invariant-loop decreases-loop
+add-p : tie.Need-overflow_step-p invariant-loop decreases-loop
 add-p c = record { fits = omega arith }
 
-loop-less : tie.Need-loop-smaller invariant-loop decreases-loop
+loop-less : tie.Need-loop-p-smaller invariant-loop decreases-loop
 loop-less c = omega arith
 
-loop-again : tie.Need-loop-preserved invariant-loop decreases-loop
+loop-again : tie.Need-loop-p-preserved invariant-loop decreases-loop
 loop-again c =
     let l = c.before.before.before.before in
     let s = l.before.before in
-    let h : l.loop.p < length s.args.cells.now = omega arith in
-    let old : to_z w32 (of_z w32 (get_or l.loop.cells l.loop.p (pos 0))) ≡ at l.loop.cells l.loop.p =
-    to_z-of_z {w = w32} {z = get_or l.loop.cells l.loop.p (pos 0)} (record { sfits = c.before.tinted-arg.given }) ∙ read_at l.loop.cells l.loop.p (omega (arith, l.loop.invariant.1.size)) in
+    let h : l.loop-p.p < length s.args.cells.now = omega arith in
+    let old : to_z w32 (of_z w32 (get_or l.loop-p.cells l.loop-p.p (pos 0))) ≡ at l.loop-p.cells l.loop-p.p =
+    to_z-of_z {w = w32} {z = get_or l.loop-p.cells l.loop-p.p (pos 0)} (record { sfits = c.before.tinted-arg-1.given }) ∙ read_at l.loop-p.cells l.loop-p.p (omega (arith, l.loop-p.invariant.1.size)) in
     let new : to_z w32 s.args.index ≡ pos s.args.index = to_z_pos w32 {n = s.args.index} (omega arith) in (
       omega arith,
-      inks_step l.loop.invariant.1 h _ (to_z-of_z {w = w32} {z = c.tinted.result} (record { sfits = c.tinted.type-inv }) ∙ c.tinted.ensures ∙ rw (old, new)),
+      inks_step l.loop-p.invariant.1 h _ (to_z-of_z {w = w32} {z = c.tinted-c.result} (record { sfits = c.tinted-c.type-inv }) ∙ c.tinted-c.ensures ∙ rw (old, new)),
     )
 
-same_length : tie.Need-same-length invariant-loop decreases-loop
-same_length c = c.before.loop.invariant.1.size
+same_length : tie.Need-shape_of-cells invariant-loop decreases-loop
+same_length c = c.before.loop-p.invariant.1.size
 
 returns : tie.Need-returns invariant-loop decreases-loop
 unfolding painted
 returns c =
-    let e : c.before.loop.p ≡ c.before.before.before.args.n = omega arith in
-    rw e at c.before.loop.invariant.1.cells
+    let e : c.before.loop-p.p ≡ c.before.before.before.args.n = omega arith in
+    rw e at c.before.loop-p.invariant.1.cells
 
-pub ink-spec : {M : Type 1} → statement M
-ink-spec =
+pub ink_spec : {M : Type 1} → statement M
+ink_spec =
     tie.close
     (tie.spec
     invariant-loop

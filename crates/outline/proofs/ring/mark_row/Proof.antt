@@ -17,63 +17,63 @@ use Rattle.outline.proofs.ring.mark_row.Tie as tie
 abbrev marked : List ℤ → ℕ → ℕ → ℕ → ℕ
 marked cells h w p = cond (ring (sheet_of cells h w) p) 1 0
 
-abbrev invariant-loop : tie.invariant-loop
+abbrev invariant-loop : tie.invariant-loop-x
 invariant-loop cells h w y marks₀ last x₀ marks x = (1 ≤ x) × (x ≤ w) × Span 0 (y * w + 1) (y * w + x) (marked cells h w) marks₀ marks
 
-abbrev decreases-loop : tie.decreases-loop
+abbrev decreases-loop : tie.decreases-loop-x
 decreases-loop cells h w y marks₀ last x₀ marks x = w - x
 
-abbrev start : tie.At-loop invariant-loop decreases-loop → tie.Start invariant-loop decreases-loop
+abbrev start : tie.At-loop-x invariant-loop decreases-loop → tie.Start invariant-loop decreases-loop
 start c = c.before.before.before
 
-returns : tie.Need-returns invariant-loop decreases-loop
-returns c = stretch_none _ _ _ _ c.if1.true
+returns : tie.Need-returns-then-w-eq0 invariant-loop decreases-loop
+returns c = stretch_none _ _ _ _ c.if-w-eq0.true
 
-sub-last : tie.Need-overflow-sub-last invariant-loop decreases-loop
+sub-last : tie.Need-overflow_sub-last invariant-loop decreases-loop
 sub-last c = omega arith
 
-loop-holds : tie.Need-loop-init invariant-loop decreases-loop
+loop-holds : tie.Need-loop-x-init invariant-loop decreases-loop
 loop-holds c = (omega arith, omega arith, span_none _ _ _ _)
 
-mark-cell-requires : tie.Need-mark-cell-requires invariant-loop decreases-loop
+mark-cell-requires : tie.Need-mark_cell-requires invariant-loop decreases-loop
 mark-cell-requires c κs =
     let l = c.before.before in
     let s = (start l).requires in
-    (s.0, (s.1.0, omega arith, omega (arith, l.loop.invariant.2.size, s.1.1)))
+    (s.0, (s.1.0, omega arith, omega (arith, l.loop-x.invariant.2.size, s.1.1)))
 
-add-x : tie.Need-overflow-add-x invariant-loop decreases-loop
-add-x c = omega (arith, (start c.before.before.before.before.before).pre.0.wide)
+add-x : tie.Need-overflow_step-x invariant-loop decreases-loop
+add-x c = omega (arith, (start c.before.before.before.before.before).requires.0.wide)
 
-loop-less : tie.Need-loop-smaller invariant-loop decreases-loop
+loop-less : tie.Need-loop-x-smaller invariant-loop decreases-loop
 loop-less c = omega arith
 
-loop-again : tie.Need-loop-preserved invariant-loop decreases-loop
+loop-again : tie.Need-loop-x-preserved invariant-loop decreases-loop
 loop-again c =
     let r = c.before.before in
     let l = r.before.before.before in
     let s = start l in
-    (omega arith, omega arith, rw r.mark-cell.ensures (row_more _ _ l.loop.invariant.2 l.loop.invariant.0 (omega (arith, place_in_lem s.args.h s.args.w s.args.y l.loop.x s.pre.1.0 (omega arith), s.pre.1.1)) _ refl))
+    (omega arith, omega arith, rw r.mark_cell.ensures (row_more _ _ l.loop-x.invariant.2 l.loop-x.invariant.0 (omega (arith, place_in_lem s.args.h s.args.w s.args.y l.loop-x.x s.requires.1.0 (omega arith), s.requires.1.1)) _ refl))
 
-mark-cell-requires-2 : tie.Need-mark-cell-requires-2 invariant-loop decreases-loop
+mark-cell-requires-2 : tie.Need-mark_cell-requires-2 invariant-loop decreases-loop
 mark-cell-requires-2 c κs =
     let l = c.before.before in
     let s = (start l).requires in
-    (s.0, (s.1.0, omega arith, omega (arith, l.loop.invariant.2.size, s.1.1)))
+    (s.0, (s.1.0, omega arith, omega (arith, l.loop-x.invariant.2.size, s.1.1)))
 
-mark-cell-requires-3 : tie.Need-mark-cell-requires-3 invariant-loop decreases-loop
+mark-cell-requires-3 : tie.Need-mark_cell-requires-3 invariant-loop decreases-loop
 mark-cell-requires-3 c κs =
     let t = c.before.before.before in
     let l = t.before.before.before in
     let s = (start l).requires in
-    (s.0, (s.1.0, omega arith, omega (arith, t.mark-cell2.auto.1.1.1.1.1.0, l.loop.invariant.2.size, s.1.1)))
+    (s.0, (s.1.0, omega arith, omega (arith, t.mark_cell-2.auto.1.1.1.1.1.0, l.loop-x.invariant.2.size, s.1.1)))
 
-same_length : tie.Need-same-length invariant-loop decreases-loop
+same_length : tie.Need-shape_of-marks invariant-loop decreases-loop
 same_length c =
     let u = c.before.before in
     let t = u.before.before.before.before in
-    u.mark-cell3.auto.1.1.1.1.1.0 ∙ t.mark-cell2.auto.1.1.1.1.1.0 ∙ t.before.before.before.loop.invariant.2.size
+    u.mark_cell-3.auto.1.1.1.1.1.0 ∙ t.mark_cell-2.auto.1.1.1.1.1.0 ∙ t.before.before.before.loop-x.invariant.2.size
 
-returns-2 : tie.Need-returns-2 invariant-loop decreases-loop
+returns-2 : tie.Need-returns invariant-loop decreases-loop
 returns-2 c =
     let u = c.before.before in
     let t = u.before.before.before.before in
@@ -81,12 +81,12 @@ returns-2 c =
     let s = start l in
     let a = s.args in
     let last = a.y * a.w + (a.w - 1) in
-    u.mark-cell3.ensures
-    ∙ ap (λ (k : List ℕ). set k last (marked a.cells.now a.h a.w last)) t.mark-cell2.ensures
-    ∙ row_ends _ _ l.loop.invariant.2 l.loop.invariant.0 a.w (a.w - 1) (omega arith) (omega arith) (omega arith) (omega (arith, row_fits a.h a.w a.y s.pre.1.0, s.pre.1.1)) _ _ refl refl
+    u.mark_cell-3.ensures
+    ∙ ap (λ (k : List ℕ). set k last (marked a.cells.now a.h a.w last)) t.mark_cell-2.ensures
+    ∙ row_ends _ _ l.loop-x.invariant.2 l.loop-x.invariant.0 a.w (a.w - 1) (omega arith) (omega arith) (omega arith) (omega (arith, row_fits a.h a.w a.y s.requires.1.0, s.requires.1.1)) _ _ refl refl
 
-pub mark-row-spec : {M : Type 1} → statement M
-mark-row-spec =
+pub mark_row_spec : {M : Type 1} → statement M
+mark_row_spec =
     tie.close
     (tie.spec
     invariant-loop

@@ -13,13 +13,13 @@ use Rattle.outline.proofs.ring.ring_at.Tie as tie
 spot : (c : tie.Start) → Spotted c.args.h c.args.w c.args.y c.args.x c.args.p
 spot c = record { row = c.requires.1.0; col = c.requires.1.1; place = c.requires.1.2 }
 
-abbrev start : tie.After-solid4 → tie.Start
+abbrev start : tie.After-solid-right → tie.Start
 start c = c.before.before.before.before.before.before.before.before
 
 back-requires : tie.Need-back-requires
 back-requires c κs = (around (spot c)).row
 
-solid-requires : tie.Need-solid-requires
+solid-requires : tie.Need-solid-above-requires
 solid-requires c κs =
     let s = c.before in
     omega (arith, c.back.ensures, (around (spot s)).above, s.requires.0.room)
@@ -29,7 +29,7 @@ ahead-requires c κs =
     let s = c.before.before in
     (s.requires.1.0, omega (arith, here_in (spot s), area-fits _ _ s.requires.0.high s.requires.0.wide), s.requires.0.wide)
 
-solid-requires-2 : tie.Need-solid-requires-2
+solid-requires-2 : tie.Need-solid-below-requires
 solid-requires-2 c κs =
     let s = c.before.before.before in
     omega (arith, c.ahead.ensures, (around (spot s)).below, s.requires.0.room)
@@ -37,20 +37,20 @@ solid-requires-2 c κs =
 back-requires-2 : tie.Need-back-requires-2
 back-requires-2 c κs = search rules
 
-solid-requires-3 : tie.Need-solid-requires-3
+solid-requires-3 : tie.Need-solid-left-requires
 solid-requires-3 c κs =
     let s = c.before.before.before.before.before in
-    omega (arith, c.back2.ensures, (around (spot s)).left, s.requires.0.room)
+    omega (arith, c.back-2.ensures, (around (spot s)).left, s.requires.0.room)
 
 ahead-requires-2 : tie.Need-ahead-requires-2
 ahead-requires-2 c κs =
     let s = c.before.before.before.before.before.before in
     (s.requires.1.1, omega (arith, here_in (spot s), area-fits _ _ s.requires.0.high s.requires.0.wide), omega arith)
 
-solid-requires-4 : tie.Need-solid-requires-4
+solid-requires-4 : tie.Need-solid-right-requires
 solid-requires-4 c κs =
     let s = c.before.before.before.before.before.before.before in
-    omega (arith, c.ahead2.ensures, (around (spot s)).right, s.requires.0.room)
+    omega (arith, c.ahead-2.ensures, (around (spot s)).right, s.requires.0.room)
 
 either-requires : tie.Need-either-requires
 either-requires c κs = search rules
@@ -58,18 +58,18 @@ either-requires c κs = search rules
 either-requires-2 : tie.Need-either-requires-2
 either-requires-2 c κs = search rules
 
-either-requires-3 : tie.Need-either-requires-3
+either-requires-3 : tie.Need-either-near-requires
 either-requires-3 c κs = search rules
 
-solid-requires-5 : tie.Need-solid-requires-5
+solid-requires-5 : tie.Need-solid-requires
 solid-requires-5 c κs =
     let s = start c.before.before.before in
-    omega (arith, here_in (spot s), s.pre.0.room)
+    omega (arith, here_in (spot s), s.requires.0.room)
 
-returns : tie.Need-returns
-returns c = sym (ring-opaque _ (spot (start c.before.before.before.before.before)) (sym c.before.solid5.ensures ∙ c.if1.true))
+returns : tie.Need-returns-then-solid
+returns c = sym (ring-opaque _ (spot (start c.before.before.before.before.before)) (sym c.before.solid.ensures ∙ c.if-solid.true))
 
-returns-2 : tie.Need-returns-2
+returns-2 : tie.Need-returns
 returns-2 c =
     let e = c.before.before in
     let f = e.before in
@@ -80,16 +80,16 @@ returns-2 c =
     let above = below.before.before in
     let s = start right in
     let look : ℕ → Bool = opaque s.args.cells.now in
-    e.either3.ensures
-    ∙ rw (g.either.ensures, f.either2.ensures)
-    (ring-near _ (spot s) (sym c.before.solid5.ensures ∙ c.if1.false)
-    (above.solid.ensures ∙ ap look above.before.back.ensures)
-    (below.solid2.ensures ∙ ap look below.before.ahead.ensures)
-    (left.solid3.ensures ∙ ap look left.before.back2.ensures)
-    (right.solid4.ensures ∙ ap look right.before.ahead2.ensures))
+    e.either-near.ensures
+    ∙ rw (g.either.ensures, f.either-2.ensures)
+    (ring-near _ (spot s) (sym c.before.solid.ensures ∙ c.if-solid.false)
+    (above.solid-above.ensures ∙ ap look above.before.back.ensures)
+    (below.solid-below.ensures ∙ ap look below.before.ahead.ensures)
+    (left.solid-left.ensures ∙ ap look left.before.back-2.ensures)
+    (right.solid-right.ensures ∙ ap look right.before.ahead-2.ensures))
 
-pub ring-at-spec : {M : Type 1} → statement M
-ring-at-spec =
+pub ring_at_spec : {M : Type 1} → statement M
+ring_at_spec =
     tie.close
     (tie.spec
     back-requires

@@ -5,11 +5,13 @@ use mir.Facts.{to_z-of_z}
 use Rattle.outline.proofs.ring.tinted.Statement.{statement}
 use Rattle.outline.proofs.ring.tinted.Tie as tie
 
-returns : tie.Need-returns
-returns c = rw (eq-eqb _ _ c.if1.true) (to_z-of_z {w = w32} {z = c.before.args.c} c.before.ranges.c)
+returns : tie.Need-returns-then-m-eq0
+returns c = rw (eq-eqb _ _ c.if-m-eq0.true) (to_z-of_z {w = w32} {z = c.before.args.c} c.before.ranges.c)
 
-returns-2 : tie.Need-returns-2
-returns-2 c = rw (ne_eqb _ _ c.if1.false) (to_z-of_z {w = w32} {z = c.before.args.ink} c.before.ranges.ink)
+returns-2 : tie.Need-returns-else-m-eq0
+returns-2 c = rw (ne_eqb _ _ c.if-m-eq0.false) (to_z-of_z {w = w32} {z = c.before.args.ink} c.before.ranges.ink)
 
-pub tinted-spec : {M : Type 1} → statement M
-tinted-spec = tie.close (tie.spec returns returns-2)
+pub tinted_spec : {M : Type 1} → statement M
+tinted_spec = tie.close (tie.spec
+    returns
+    returns-2)

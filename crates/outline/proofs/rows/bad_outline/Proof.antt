@@ -9,18 +9,22 @@ use Rattle.outline.proofs.rows.bad_outline.Tie as tie
 asked-requires : tie.Need-asked-requires
 asked-requires c κs = search rules
 
-returns : tie.Need-returns
+returns : tie.Need-returns-then-not-asked
 unfolding bad_outline
-returns c = rw (sym c.before.asked.ensures ∙ not_true c.before.asked.result c.if1.true)
+returns c = rw (sym c.before.asked.ensures ∙ not_true c.before.asked.result c.if-not-asked.true)
 
-bad-darkening-requires : tie.Need-bad-darkening-requires
+bad-darkening-requires : tie.Need-bad_darkening-requires
 bad-darkening-requires c κs = search rules
 
-returns-2 : tie.Need-returns-2
+returns-2 : tie.Need-returns
 unfolding bad_outline
 returns-2 c =
     let a = c.before.before in
-    rw (sym a.asked.ensures ∙ not_false a.asked.result c.before.if1.false) c.bad-darkening.ensures
+    rw (sym a.asked.ensures ∙ not_false a.asked.result c.before.if-not-asked.false) c.bad_darkening.ensures
 
-pub bad-outline-spec : {M : Type 1} → statement M
-bad-outline-spec = tie.close (tie.spec asked-requires returns bad-darkening-requires returns-2)
+pub bad_outline_spec : {M : Type 1} → statement M
+bad_outline_spec = tie.close (tie.spec
+    asked-requires
+    returns
+    bad-darkening-requires
+    returns-2)

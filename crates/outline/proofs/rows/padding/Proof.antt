@@ -13,25 +13,30 @@ use Rattle.outline.proofs.rows.padding.Tie as tie
 present-requires : tie.Need-present-requires
 present-requires c κs = search rules
 
-returns : tie.Need-returns
-returns c = rw (sym c.before.present.ensures ∙ not_true c.before.present.result c.if1.true)
+returns : tie.Need-returns-then-not-present
+returns c = rw (sym c.before.present.ensures ∙ not_true c.before.present.result c.if-not-present.true)
 
 -- the sheet is there
-is_there : (c : tie.Else1) → let s = c.before.before.args in present s.h s.w (length s.cells.now) ≡ true
-is_there c = sym c.before.present.ensures ∙ not_false c.before.present.result c.if1.false
+is_there : (c : tie.Else-not-present) → let s = c.before.before.args in present s.h s.w (length s.cells.now) ≡ true
+is_there c = sym c.before.present.ensures ∙ not_false c.before.present.result c.if-not-present.false
 
-touches-edge-requires : tie.Need-touches-edge-requires
+touches-edge-requires : tie.Need-touches_edge-requires
 touches-edge-requires c κs = present-sheet _ _ _ (is_there c)
 
 pads-requires : tie.Need-pads-requires
 pads-requires c κs = search rules
 
-returns-2 : tie.Need-returns-2
+returns-2 : tie.Need-returns
 unfolding pads
 returns-2 c =
     let t = c.before in
     let how = t.before.before.before.args.how in
-    rw (is_there t.before) (c.pads.ensures ∙ ap (λ (b : Bool). how.allow_pad && asked how.outline && b) t.touches-edge.ensures)
+    rw (is_there t.before) (c.pads.ensures ∙ ap (λ (b : Bool). how.allow_pad && asked how.outline && b) t.touches_edge.ensures)
 
-pub padding-spec : {M : Type 1} → statement M
-padding-spec = tie.close (tie.spec present-requires returns touches-edge-requires pads-requires returns-2)
+pub padding_spec : {M : Type 1} → statement M
+padding_spec = tie.close (tie.spec
+    present-requires
+    returns
+    touches-edge-requires
+    pads-requires
+    returns-2)

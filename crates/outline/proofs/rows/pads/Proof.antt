@@ -8,21 +8,25 @@ use Rattle.outline.proofs.rows.pads.Tie as tie
 abbrev start : tie.After-asked → tie.Start
 start c = c.before.before.before
 
-returns : tie.Need-returns
-returns c = rw (not_true c.before.before.args.how.allow_pad c.if1.true)
+returns : tie.Need-returns-then-not-how
+returns c = rw (not_true c.before.before.args.how.allow_pad c.if-not-how.true)
 
 asked-requires : tie.Need-asked-requires
 asked-requires c κs = search rules
 
-returns-2 : tie.Need-returns-2
+returns-2 : tie.Need-returns-then-not-asked
 returns-2 c =
     let a = c.before in
-    rw (not_false (start a).args.how.allow_pad a.before.if1.false, sym a.asked.ensures ∙ not_true a.asked.result c.if2.true)
+    rw (not_false (start a).args.how.allow_pad a.before.if-not-how.false, sym a.asked.ensures ∙ not_true a.asked.result c.if-not-asked.true)
 
-returns-3 : tie.Need-returns-3
+returns-3 : tie.Need-returns
 returns-3 c =
     let a = c.before in
-    rw (not_false (start a).args.how.allow_pad a.before.if1.false, sym a.asked.ensures ∙ not_false a.asked.result c.if2.false)
+    rw (not_false (start a).args.how.allow_pad a.before.if-not-how.false, sym a.asked.ensures ∙ not_false a.asked.result c.if-not-asked.false)
 
-pub pads-spec : {M : Type 1} → statement M
-pads-spec = tie.close (tie.spec returns asked-requires returns-2 returns-3)
+pub pads_spec : {M : Type 1} → statement M
+pads_spec = tie.close (tie.spec
+    returns
+    asked-requires
+    returns-2
+    returns-3)

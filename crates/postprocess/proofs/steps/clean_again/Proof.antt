@@ -7,34 +7,40 @@ use Rattle.postprocess.proofs.Switched.{cleans_after, uncleaned_after}
 use Rattle.postprocess.proofs.steps.clean_again.Statement.{statement}
 use Rattle.postprocess.proofs.steps.clean_again.Tie as tie
 
-returns : tie.Need-returns
+returns : tie.Need-returns-then-not-asked
 returns c =
     let s = c.before.before.before.before in
     let a = s.args in
     let f = a.facts in
-    uncleaned_after a.cells.now f.height f.width 1 (palette_of a.palette.now f.colours) a.config s.requires.0 (sym c.before.asked.ensures ∙ not_true _ c.if1.true)
+    uncleaned_after a.cells-1.now f.height f.width 1 (palette_of a.palette.now f.colours) a.config s.requires.0 (sym c.before.asked.ensures ∙ not_true _ c.if-not-asked.true)
 
-returns-2 : tie.Need-returns-2
+returns-2 : tie.Need-returns
 returns-2 c =
     let r = c.before.before.before in
     let e = r.before.before.before in
     let a = e.before.before.before.before.args in
     let f = a.facts in
-    cleans_after a.cells.now f.height f.width 1 (palette_of a.palette.now f.colours) a.config (sym e.before.asked.ensures ∙ not_false _ e.if1.false) r.clean-if.ensures
+    cleans_after a.cells-1.now f.height f.width 1 (palette_of a.palette.now f.colours) a.config (sym e.before.asked.ensures ∙ not_false _ e.if-not-asked.false) r.clean_if.ensures
 
 asked-requires : tie.Need-asked-requires
 asked-requires c κs = search rules
 
-clean-if-requires : tie.Need-clean-if-requires
+clean-if-requires : tie.Need-clean_if-requires
 clean-if-requires c κs = search rules
 
-same_length : tie.Need-same-length
+same_length : tie.Need-shape_of-cells
 same_length c = search rules
 
-same-length-2 : tie.Need-same-length-2
+same-length-2 : tie.Need-shape_of-work
 same-length-2 c = search rules
 
-pub clean-again-spec : {M : Type 1} → statement M
-clean-again-spec =
+pub clean_again_spec : {M : Type 1} → statement M
+clean_again_spec =
     tie.close
-    (tie.spec asked-requires returns clean-if-requires same_length same-length-2 returns-2)
+    (tie.spec
+    asked-requires
+    returns
+    clean-if-requires
+    same_length
+    same-length-2
+    returns-2)

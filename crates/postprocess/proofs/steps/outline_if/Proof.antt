@@ -11,19 +11,19 @@ use Rattle.postprocess.proofs.steps.outline_if.Tie as tie
 abbrev start : tie.After-asked → tie.Start
 start c = c.before.before.before
 
-returns : tie.Need-returns
+returns : tie.Need-returns-then-not-asked
 returns c =
     let q = c.before.before in
     let s = start q in
     let a = s.args in
-    unlined a.how (palette_of a.palette.now a.k) a.cells.now a.size.h a.size.w (room_plain _ s.pre.0).0 (sym q.asked.ensures ∙ not_true _ c.before.if1.true) c.plain.ensures
+    unlined a.how (palette_of a.palette-1.now a.k) a.cells-1.now a.size.h a.size.w (room_plain _ s.requires.0).0 (sym q.asked.ensures ∙ not_true _ c.before.if-not-asked.true) c.plain.ensures
 
-returns-2 : tie.Need-returns-2
+returns-2 : tie.Need-returns
 returns-2 c =
     let d = c.before.before.before.before.before in
     let e = d.before.before.before.before in
     let a = (start e.before).args in
-    lines a.how (palette_of a.palette.now a.k) a.cells.now a.size.h a.size.w (sym e.before.asked.ensures ∙ not_false _ e.if1.false) d.outline-sheet.ensures
+    lines a.how (palette_of a.palette-1.now a.k) a.cells-1.now a.size.h a.size.w (sym e.before.asked.ensures ∙ not_false _ e.if-not-asked.false) d.outline_sheet.ensures
 
 asked-requires : tie.Need-asked-requires
 asked-requires c κs = search rules
@@ -31,20 +31,20 @@ asked-requires c κs = search rules
 plain-requires : tie.Need-plain-requires
 plain-requires c κs = search rules
 
-outline-sheet-requires : tie.Need-outline-sheet-requires
+outline-sheet-requires : tie.Need-outline_sheet-requires
 outline-sheet-requires c κs = search rules
 
-same_length : tie.Need-same-length
+same_length : tie.Need-shape_of-cells
 same_length c = search rules
 
-same-length-2 : tie.Need-same-length-2
+same-length-2 : tie.Need-shape_of-palette
 same-length-2 c = search rules
 
-same-length-3 : tie.Need-same-length-3
+same-length-3 : tie.Need-shape_of-work
 same-length-3 c = search rules
 
-pub outline-if-spec : {M : Type 1} → statement M
-outline-if-spec =
+pub outline_if_spec : {M : Type 1} → statement M
+outline_if_spec =
     tie.close
     (tie.spec
     asked-requires

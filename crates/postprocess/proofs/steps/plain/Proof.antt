@@ -6,5 +6,6 @@ use Rattle.postprocess.proofs.steps.plain.Tie as tie
 returns : tie.Need-returns
 returns c = refl
 
-pub plain-spec : {M : Type 1} → statement M
-plain-spec = tie.close (tie.spec returns)
+pub plain_spec : {M : Type 1} → statement M
+plain_spec = tie.close (tie.spec
+    returns)

@@ -9,17 +9,21 @@ use Rattle.postprocess.proofs.steps.tone_unless.Tie as tie
 saturate-requires : tie.Need-saturate-requires
 saturate-requires c κs = search rules
 
-same_length : tie.Need-same-length
+same_length : tie.Need-shape_of-palette
 same_length c = search rules
 
-returns : tie.Need-returns
+returns : tie.Need-returns-then-not-kept
 returns c =
     let t = c.before.before in
     let s = t.before.before.before.before.args in
-    t.saturate.ensures ∙ tones_new s.kept s.config (palette_of s.palette.now s.k) t.before.before.if1.true
+    t.saturate.ensures ∙ tones_new s.kept s.config (palette_of s.palette-1.now s.k) t.before.before.if-not-kept.true
 
-returns-2 : tie.Need-returns-2
-returns-2 c = let s = c.before.before.args in tones_kept s.kept s.config (palette_of s.palette.now s.k) c.if1.false
+returns-2 : tie.Need-returns-else-not-kept
+returns-2 c = let s = c.before.before.args in tones_kept s.kept s.config (palette_of s.palette-1.now s.k) c.if-not-kept.false
 
-pub tone-unless-spec : {M : Type 1} → statement M
-tone-unless-spec = tie.close (tie.spec saturate-requires same_length returns returns-2)
+pub tone_unless_spec : {M : Type 1} → statement M
+tone_unless_spec = tie.close (tie.spec
+    saturate-requires
+    same_length
+    returns
+    returns-2)

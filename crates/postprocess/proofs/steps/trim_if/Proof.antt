@@ -4,24 +4,29 @@ use Rattle.postprocess.proofs.Switched.{trims, untrimmed}
 use Rattle.postprocess.proofs.steps.trim_if.Statement.{statement}
 use Rattle.postprocess.proofs.steps.trim_if.Tie as tie
 
-trim-sheet-requires : tie.Need-trim-sheet-requires
+trim-sheet-requires : tie.Need-trim_sheet-requires
 trim-sheet-requires c κs = search rules
 
-same_length : tie.Need-same-length
+same_length : tie.Need-shape_of-cells
 same_length c = search rules
 
-same-length-2 : tie.Need-same-length-2
+same-length-2 : tie.Need-shape_of-work
 same-length-2 c = search rules
 
-returns : tie.Need-returns
+returns : tie.Need-returns-then-config
 returns c =
     let t = c.before.before.before in
     let i = t.before.before.before in
     let a = i.before.before.args in
-    trims a.cells.now a.h a.w a.config.fix_jaggies i.if1.true t.trim-sheet.ensures
+    trims a.cells-1.now a.h a.w a.config.fix_jaggies i.if-config.true t.trim_sheet.ensures
 
-returns-2 : tie.Need-returns-2
-returns-2 c = let s = c.before.before in untrimmed s.args.cells.now s.args.h s.args.w s.args.config.fix_jaggies s.requires.2 c.if1.false
+returns-2 : tie.Need-returns-else-config
+returns-2 c = let s = c.before.before in untrimmed s.args.cells.now s.args.h s.args.w s.args.config.fix_jaggies s.requires.2 c.if-config.false
 
-pub trim-if-spec : {M : Type 1} → statement M
-trim-if-spec = tie.close (tie.spec trim-sheet-requires same_length same-length-2 returns returns-2)
+pub trim_if_spec : {M : Type 1} → statement M
+trim_if_spec = tie.close (tie.spec
+    trim-sheet-requires
+    same_length
+    same-length-2
+    returns
+    returns-2)

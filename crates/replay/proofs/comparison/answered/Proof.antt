@@ -8,5 +8,8 @@ returns : tie.Need-returns
 unfolding answered_at
 returns c = cc
 
-pub answered-spec : {M : Type 1} → statement M
-answered-spec = tie.close (tie.spec (search rules) (search rules) returns)
+pub answered_spec : {M : Type 1} → statement M
+answered_spec = tie.close (tie.spec
+    (search rules)
+    (search rules)
+    returns)

@@ -5,42 +5,44 @@ use Rattle.replay.proofs.Filling.{Lending, begun, more, fit, part, lent}
 use Rattle.replay.proofs.lists.lend_words.Statement.{statement}
 use Rattle.replay.proofs.lists.lend_words.Tie as tie
 
-abbrev invariant-loop : tie.invariant-loop
+abbrev invariant-loop : tie.invariant-loop-i
 invariant-loop numbers s buffer₀ n i₀ buffer i = Lending as_word numbers s n buffer₀ buffer i
 
-abbrev decreases-loop : tie.decreases-loop
+abbrev decreases-loop : tie.decreases-loop-i
 decreases-loop numbers s buffer₀ n i₀ buffer i = n - i
 
-loop-holds : tie.Need-loop-init invariant-loop decreases-loop
+loop-holds : tie.Need-loop-i-init invariant-loop decreases-loop
 loop-holds c = begun _ _ _ (omega arith)
 
-mul-buffer : tie.Need-overflow-mul-buffer invariant-loop decreases-loop
-mul-buffer c = let e = fit c.before.before.before.loop.invariant in omega arith
+mul-buffer : tie.Need-offset_bounds-buffer-i invariant-loop decreases-loop
+mul-buffer c = let e = fit c.before.before.before.loop-i.invariant in omega arith
 
-slice-write-buffer : tie.Need-slice-write-buffer invariant-loop decreases-loop
-slice-write-buffer c = let e = fit c.before.before.before.loop.invariant in omega arith
+slice-write-buffer : tie.Need-bounds-buffer-i invariant-loop decreases-loop
+slice-write-buffer c = let e = fit c.before.before.before.loop-i.invariant in omega arith
 
-loop-again : tie.Need-loop-preserved invariant-loop decreases-loop
-loop-again c = more c.before.before.before.loop.invariant c.before.before.loop-test.true _ cc
+loop-again : tie.Need-loop-i-preserved invariant-loop decreases-loop
+loop-again c = more c.before.before.before.loop-i.invariant c.before.before.loop-i-test.true _ cc
 
-slice-aggregate-result : tie.Need-slice-aggregate-result invariant-loop decreases-loop
-slice-aggregate-result c = part c.before.before.loop.invariant
+slice-aggregate-result : tie.Need-slice_bounds-result-end invariant-loop decreases-loop
+slice-aggregate-result c = part c.before.before.loop-i.invariant
 
 returns : tie.Need-returns invariant-loop decreases-loop
-returns c = lent _ _ _ _ c.before.before.loop.invariant c.before.loop-test.false c.before.before.before.least.ensures.0
+returns c = lent _ _ _ _ c.before.before.loop-i.invariant c.before.loop-i-test.false c.before.before.before.least-n.ensures.0
 
-pub lend-words-spec : {M : Type 1} → statement M
-lend-words-spec =
+pub lend_words_spec : {M : Type 1} → statement M
+lend_words_spec =
     tie.close
     (tie.spec
     invariant-loop
     decreases-loop
     (search rules)
     loop-holds
-    (search rules) (search rules)
+    (search rules)
+    (search rules)
     mul-buffer
     slice-write-buffer
-    (search rules) (search rules)
+    (search rules)
+    (search rules)
     loop-again
     slice-aggregate-result
     returns)

@@ -5,28 +5,33 @@ use Rattle.replay.proofs.Agreeing.{Comparing, none_yet, one_more, compared}
 use Rattle.replay.proofs.lists.same_cells.Statement.{statement}
 use Rattle.replay.proofs.lists.same_cells.Tie as tie
 
-abbrev invariant-loop : tie.invariant-loop
+abbrev invariant-loop : tie.invariant-loop-i
 invariant-loop numbers a got same₀ i₀ same i = Comparing (same_cell got) numbers a (length got) i same
 
-abbrev decreases-loop : tie.decreases-loop
+abbrev decreases-loop : tie.decreases-loop-i
 decreases-loop numbers a got same₀ i₀ same i = length got - i
 
-loop-holds : tie.Need-loop-init invariant-loop decreases-loop
+loop-holds : tie.Need-loop-i-init invariant-loop decreases-loop
 loop-holds c = none_yet _ _ _
 
-loop-again : tie.Need-loop-preserved invariant-loop decreases-loop
-loop-again c = one_more c.before.before.before.before.loop.invariant _ c.before.before.before.loop-test.true cc
+loop-again : tie.Need-loop-i-preserved invariant-loop decreases-loop
+loop-again c = one_more c.before.before.before.before.loop-i.invariant _ c.before.before.before.loop-i-test.true cc
 
 returns : tie.Need-returns invariant-loop decreases-loop
-returns c = compared _ _ _ c.before.loop.invariant c.loop-test.false
+returns c = compared _ _ _ c.before.loop-i.invariant c.loop-i-test.false
 
-pub same-cells-spec : {M : Type 1} → statement M
-same-cells-spec =
+pub same_cells_spec : {M : Type 1} → statement M
+same_cells_spec =
     tie.close
     (tie.spec
     invariant-loop
     decreases-loop
     loop-holds
-    (search rules) (search rules) (search rules) (search rules) (search rules) (search rules)
+    (search rules)
+    (search rules)
+    (search rules)
+    (search rules)
+    (search rules)
+    (search rules)
     loop-again
     returns)

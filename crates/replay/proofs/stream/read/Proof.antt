@@ -7,12 +7,17 @@ use Rattle.replay.proofs.stream.read.Tie as tie
 returns : tie.Need-returns
 returns c =
     let p = c.before.before in
-    let e = p.parsed.ensures in
-    (p.before.before.before.before.before.before.read-full.ensures.0, (e.0, (e.1, rw (e.0, e.1) (bytes_fit _ _ _))))
+    let e = p.parsed-count.ensures in
+    (p.before.before.before.before.before.before.read_full-bytes.ensures.0, (e.0, (e.1, rw (e.0, e.1) (bytes_fit _ _ _))))
 
 pub read_spec : {M : Type 1} → statement M
 read_spec =
     tie.close
     (tie.spec
-    (search rules) (search rules) (search rules) (search rules) (search rules) (search rules)
+    (search rules)
+    (search rules)
+    (search rules)
+    (search rules)
+    (search rules)
+    (search rules)
     returns)

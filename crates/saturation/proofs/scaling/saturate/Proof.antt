@@ -6,58 +6,58 @@ use Rattle.saturation.proofs.Tones.{Saturates, saturates_start, saturates_step, 
 use Rattle.saturation.proofs.scaling.saturate.Statement.{statement}
 use Rattle.saturation.proofs.scaling.saturate.Tie as tie
 
-abbrev invariant-loop : tie.invariant-loop
+abbrev invariant-loop : tie.invariant-loop-i
 invariant-loop palette₀ k beta i₀ palette i = (i ≤ k) × Saturates palette₀ beta (3 * i) palette
 
-abbrev decreases-loop : tie.decreases-loop
+abbrev decreases-loop : tie.decreases-loop-i
 decreases-loop palette₀ k beta i₀ palette i = k - i
 
-loop-holds : tie.Need-loop-init invariant-loop decreases-loop
+loop-holds : tie.Need-loop-i-init invariant-loop decreases-loop
 loop-holds c = (omega arith, saturates_start _ _)
 
-mul-scale : tie.Need-overflow-mul-scale invariant-loop decreases-loop
+mul-scale : tie.Need-overflow_mul-i invariant-loop decreases-loop
 mul-scale c = omega arith
 
-add-scale : tie.Need-overflow-add-scale invariant-loop decreases-loop
+add-scale : tie.Need-overflow_add-i invariant-loop decreases-loop
 add-scale c = omega arith
 
 scale-requires : tie.Need-scale-requires invariant-loop decreases-loop
-scale-requires c κs = omega (arith, c.before.before.loop.invariant.1.size)
+scale-requires c κs = omega (arith, c.before.before.loop-i.invariant.1.size)
 
-mul-scale-2 : tie.Need-overflow-mul-scale-2 invariant-loop decreases-loop
+mul-scale-2 : tie.Need-overflow_mul-i-in-loop-i invariant-loop decreases-loop
 mul-scale-2 c = omega arith
 
-add-scale-2 : tie.Need-overflow-add-scale-2 invariant-loop decreases-loop
+add-scale-2 : tie.Need-overflow_add-i-in-loop-i invariant-loop decreases-loop
 add-scale-2 c = omega arith
 
-scale-requires-2 : tie.Need-scale-requires-2 invariant-loop decreases-loop
+scale-requires-2 : tie.Need-scale-requires-in-loop-i invariant-loop decreases-loop
 scale-requires-2 c κs =
     let t = c.before.before.before in
-    omega (arith, t.scale.auto.0, t.before.before.before.loop.invariant.1.size)
+    omega (arith, t.scale.auto.0, t.before.before.before.loop-i.invariant.1.size)
 
-add-i : tie.Need-overflow-add-i invariant-loop decreases-loop
+add-i : tie.Need-overflow_step-i invariant-loop decreases-loop
 add-i c = omega arith
 
-loop-less : tie.Need-loop-smaller invariant-loop decreases-loop
+loop-less : tie.Need-loop-i-smaller invariant-loop decreases-loop
 loop-less c = omega arith
 
-loop-again : tie.Need-loop-preserved invariant-loop decreases-loop
+loop-again : tie.Need-loop-i-preserved invariant-loop decreases-loop
 loop-again c =
     let u = c.before.before in
     let t = u.before.before.before.before in
-    (omega arith, saturates_step _ _ t.before.before.before.loop.i t.before.before.before.loop.invariant.1 (omega arith) t.scale.ensures u.scale2.ensures)
+    (omega arith, saturates_step _ _ t.before.before.before.loop-i.i t.before.before.before.loop-i.invariant.1 (omega arith) t.scale.ensures u.scale-in-loop-i.ensures)
 
-same_length : tie.Need-same-length invariant-loop decreases-loop
-same_length c = c.before.loop.invariant.1.size
+same_length : tie.Need-shape_of-palette invariant-loop decreases-loop
+same_length c = c.before.loop-i.invariant.1.size
 
 returns : tie.Need-returns invariant-loop decreases-loop
 returns c =
     let k = c.before.before.before.args.k in
-    let e : c.before.loop.i ≡ k = omega arith in
-    saturates_end _ _ k (rw e at c.before.loop.invariant.1)
+    let e : c.before.loop-i.i ≡ k = omega arith in
+    saturates_end _ _ k (rw e at c.before.loop-i.invariant.1)
 
-pub saturate-spec : {M : Type 1} → statement M
-saturate-spec =
+pub saturate_spec : {M : Type 1} → statement M
+saturate_spec =
     tie.close
     (tie.spec
     invariant-loop

@@ -8,51 +8,51 @@ use Rattle.silk_reader.proofs.Scanning.{Matched, matched_more, matched_no, match
 use Rattle.silk_reader.proofs.Cursor.bytes.Statement.{statement}
 use Rattle.silk_reader.proofs.Cursor.bytes.Tie as tie
 
-abbrev invariant-loop : tie.invariant-loop
+abbrev invariant-loop : tie.invariant-loop-i
 invariant-loop text key at₀ i₀ at i = Matched key text at₀ at i
 
-abbrev decreases-loop : tie.decreases-loop
+abbrev decreases-loop : tie.decreases-loop-i
 decreases-loop text key at₀ i₀ at i = length key - i
 
-loop-holds : tie.Need-loop-init invariant-loop decreases-loop
+loop-holds : tie.Need-loop-i-init invariant-loop decreases-loop
 loop-holds c = record { same = refl }
 
-returns : tie.Need-returns invariant-loop decreases-loop
+returns : tie.Need-returns-then-at-text invariant-loop decreases-loop
 unfolding got_bytes
-returns c = matched_short c.before.before.loop.invariant c.before.loop-test.true c.if1.true
+returns c = matched_short c.before.before.loop-i.invariant c.before.loop-i-test.true c.if-at-text.true
 
-shared-slice-read-if2 : tie.Need-shared-slice-read-if2 invariant-loop decreases-loop
+shared-slice-read-if2 : tie.Need-bounds-text-at invariant-loop decreases-loop
 shared-slice-read-if2 c = omega arith
 
-shared-slice-read-if2-2 : tie.Need-shared-slice-read-if2-2 invariant-loop decreases-loop
+shared-slice-read-if2-2 : tie.Need-bounds-key-i invariant-loop decreases-loop
 shared-slice-read-if2-2 c = omega arith
 
-returns-2 : tie.Need-returns-2 invariant-loop decreases-loop
+returns-2 : tie.Need-returns-then-text-at invariant-loop decreases-loop
 unfolding got_bytes
 returns-2 c =
     let turn = c.before.before.before.before in
-    matched_no turn.before.loop.invariant turn.loop-test.true (omega arith) c.if2.true
+    matched_no turn.before.loop-i.invariant turn.loop-i-test.true (omega arith) c.if-text-at.true
 
-add_at : tie.Need-overflow-add-at invariant-loop decreases-loop
+add_at : tie.Need-overflow_add-at invariant-loop decreases-loop
 add_at c = omega arith
 
-add-i : tie.Need-overflow-add-i invariant-loop decreases-loop
+add-i : tie.Need-overflow_add-i invariant-loop decreases-loop
 add-i c = omega arith
 
-loop-less : tie.Need-loop-smaller invariant-loop decreases-loop
+loop-less : tie.Need-loop-i-smaller invariant-loop decreases-loop
 loop-less c = omega arith
 
-loop-again : tie.Need-loop-preserved invariant-loop decreases-loop
+loop-again : tie.Need-loop-i-preserved invariant-loop decreases-loop
 loop-again c =
     let turn = c.before.before.before.before in
-    matched_more turn.before.loop.invariant turn.loop-test.true (omega arith) c.if2.false
+    matched_more turn.before.loop-i.invariant turn.loop-i-test.true (omega arith) c.if-text-at.false
 
-returns-3 : tie.Need-returns-3 invariant-loop decreases-loop
+returns-3 : tie.Need-returns invariant-loop decreases-loop
 unfolding got_bytes
-returns-3 c = matched_all c.before.loop.invariant c.loop-test.false
+returns-3 c = matched_all c.before.loop-i.invariant c.loop-i-test.false
 
-pub bytes-spec : {M : Type 1} → statement M
-bytes-spec =
+pub bytes_spec : {M : Type 1} → statement M
+bytes_spec =
     tie.close
     (tie.spec
     invariant-loop

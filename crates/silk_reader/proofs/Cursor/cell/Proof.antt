@@ -7,14 +7,14 @@ use Rattle.silk_reader.proofs.Scanning.{minus-inside}
 use Rattle.silk_reader.proofs.Cursor.cell.Statement.{statement}
 use Rattle.silk_reader.proofs.Cursor.cell.Tie as tie
 
-at-minus-requires : tie.Need-at-minus-requires
+at-minus-requires : tie.Need-at_minus-requires
 at-minus-requires c κs = tt
 
-add-next : tie.Need-overflow-add-next
+add-next : tie.Need-overflow_add-next
 add-next c =
     let at-minus = c.before.before in
     let a = at-minus.before.before.args in
-    omega (arith, minus-inside a.text.now a.self.at (sym at-minus.at-minus.ensures ∙ c.before.if1.true))
+    omega (arith, minus-inside a.text.now a.self.at (sym at-minus.at_minus.ensures ∙ c.before.if-at_minus.true))
 
 negative-requires : tie.Need-negative-requires
 negative-requires c κs = tt
@@ -22,16 +22,22 @@ negative-requires c κs = tt
 natural-requires : tie.Need-natural-requires
 natural-requires c κs = tt
 
-returns : tie.Need-returns
+returns : tie.Need-returns-then-at_minus
 unfolding cell
 returns c =
     let at-minus = c.before.before.before in
     let a = at-minus.before.before.args in
-    rw (sym at-minus.at-minus.ensures ∙ c.before.before.if1.true) (c.negative.ensures ∙ ap negative (sym (drop-drop 1 a.self.at a.text.now)))
+    rw (sym at-minus.at_minus.ensures ∙ c.before.before.if-at_minus.true) (c.negative.ensures ∙ ap negative (sym (drop-drop 1 a.self.at a.text.now)))
 
-returns-2 : tie.Need-returns-2
+returns-2 : tie.Need-returns-else-at_minus
 unfolding cell
-returns-2 c = rw (sym c.before.before.at-minus.ensures ∙ c.before.if1.false) c.natural.ensures
+returns-2 c = rw (sym c.before.before.at_minus.ensures ∙ c.before.if-at_minus.false) c.natural.ensures
 
-pub cell-spec : {M : Type 1} → statement M
-cell-spec = tie.close (tie.spec at-minus-requires add-next negative-requires natural-requires returns returns-2)
+pub cell_spec : {M : Type 1} → statement M
+cell_spec = tie.close (tie.spec
+    at-minus-requires
+    add-next
+    negative-requires
+    natural-requires
+    returns
+    returns-2)

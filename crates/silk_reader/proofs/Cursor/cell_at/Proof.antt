@@ -10,45 +10,41 @@ use Rattle.silk_reader.proofs.Cursor.cell_at.Tie as tie
 cell-requires : tie.Need-cell-requires
 cell-requires c κs = tt
 
-returns : tie.Need-returns
+returns : tie.Need-returns-then-x-eq0
 unfolding cell_at
-returns c = rw (eq-eqb _ 0 c.before.if1.true) c.cell.ensures
-
-slice-aggregate-bytes : tie.Need-slice-aggregate-bytes
-slice-aggregate-bytes c = search rules
+returns c = rw (eq-eqb _ 0 c.before.if-x-eq0.true) c.cell.ensures
 
 bytes-requires : tie.Need-bytes-requires
 bytes-requires c κs = tt
 
-enum-known-next : tie.Need-enum-known-next
+enum-known-next : tie.Need-enum_known-next
 enum-known-next c = search rules
 
-enum_told : tie.Need-enum-told
+enum_told : tie.Need-enum_told-1
 enum_told c = search rules
 
-returns-2 : tie.Need-returns-2
+returns-2 : tie.Need-returns-in_default
 unfolding got_bytes got_cell cell_at ◌>>◌ chain codes
 returns-2 c =
     let bytes = c.before.before in
-    rw (ne_eqb _ 0 bytes.before.before.if1.false, known (got_bytes _) bytes.bytes.ensures c.enum_told.given.1)
+    rw (ne_eqb _ 0 bytes.before.before.if-x-eq0.false, known (got_bytes _) bytes.bytes.ensures c.enum_told-1.given.1)
 
 cell-requires-2 : tie.Need-cell-requires-2
 cell-requires-2 c κs = tt
 
-returns-3 : tie.Need-returns-3
+returns-3 : tie.Need-returns
 unfolding got_bytes cell_at ◌>>◌ chain codes
 returns-3 c =
     let next = c.before.before in
     let bytes = next.before.before in
-    rw (ne_eqb _ 0 bytes.before.before.if1.false, known (got_bytes _) bytes.bytes.ensures next.next.given.1) c.cell2.ensures
+    rw (ne_eqb _ 0 bytes.before.before.if-x-eq0.false, known (got_bytes _) bytes.bytes.ensures next.next-1.given.1) c.cell-2.ensures
 
-pub cell-at-spec : {M : Type 1} → statement M
-cell-at-spec =
+pub cell_at_spec : {M : Type 1} → statement M
+cell_at_spec =
     tie.close
     (tie.spec
     cell-requires
     returns
-    slice-aggregate-bytes
     bytes-requires
     enum-known-next
     enum_told

@@ -7,10 +7,14 @@ use Rattle.silk_reader.proofs.Chaining.{pieces}
 use Rattle.silk_reader.proofs.Cursor.colour_line.Statement.{statement}
 use Rattle.silk_reader.proofs.Cursor.colour_line.Tie as tie
 
-pub colour-line-spec : {M : Type 1} → statement M
+pub colour_line_spec : {M : Type 1} → statement M
 unfolding got_bytes got_colour colour_line ◌>>◌ chain codes
-colour-line-spec =
+colour_line_spec =
     tie.close
     (tie.spec
-    (search rules) (search rules) (search rules) (search rules) (λ c. search pieces)
-    (search rules) (λ c. search pieces))
+    (search rules)
+    (search rules)
+    (search rules)
+    (search rules)
+    (search rules)
+    (search rules))

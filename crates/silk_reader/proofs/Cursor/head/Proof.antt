@@ -12,6 +12,17 @@ unfolding got_sizes got_passes got_outline got_head head ◌>>=◌ chain
 head_spec =
     tie.close
     (tie.spec
-    (search rules) (search rules) (search rules) (λ c. search parts)
-    (search rules) (search rules) (search rules) (λ c. search parts)
-    (search rules) (search rules) (search rules) (search rules) (λ c. search parts) (λ c. search parts))
+    (search rules)
+    (search rules)
+    (search rules)
+    (search rules)
+    (search rules)
+    (search rules)
+    (search rules)
+    (search rules)
+    (search rules)
+    (search rules)
+    (search rules)
+    (search rules)
+    (search rules)
+    (search rules))

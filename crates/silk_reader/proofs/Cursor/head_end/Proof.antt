@@ -7,11 +7,15 @@ use Rattle.silk_reader.proofs.Chaining.{known, parts}
 use Rattle.silk_reader.proofs.Cursor.head_end.Statement.{statement}
 use Rattle.silk_reader.proofs.Cursor.head_end.Tie as tie
 
-pub head-end-spec : {M : Type 1} → statement M
+pub head_end_spec : {M : Type 1} → statement M
 unfolding got_options got_head head_end ◌>>=◌ chain
-head-end-spec =
+head_end_spec =
     tie.close
     (tie.spec
-    (search rules) (search rules) (search rules) (λ c. search parts)
-    (search rules) (search rules)
-    (λ c. let o = c.before.before.before in rw (known (got_options _) o.before.before.options.ensures o.o.given.1, ← c.before.head_of.ensures) (c.checked-head.ensures _)))
+    (search rules)
+    (search rules)
+    (search rules)
+    (search rules)
+    (search rules)
+    (search rules)
+    (search rules))

@@ -6,50 +6,50 @@ use Rattle.silk_reader.proofs.Scanning.{hex_short, hex_at}
 use Rattle.silk_reader.proofs.Cursor.hex_line.Statement.{statement}
 use Rattle.silk_reader.proofs.Cursor.hex_line.Tie as tie
 
-line-end-requires : tie.Need-line-end-requires
+line-end-requires : tie.Need-line_end-end-requires
 line-end-requires c κs = tt
 
-returns : tie.Need-returns
+returns : tie.Need-returns-then-end-text
 unfolding got_colour
-returns c = hex_short _ _ _ c.before.line-end.ensures c.if1.true
+returns c = hex_short _ _ _ c.before.line_end-end.ensures c.if-end-text.true
 
-add-next : tie.Need-overflow-add-next
+add-next : tie.Need-overflow_add-next
 add-next c = search rules
 
-sub-hex-to-rgb8 : tie.Need-overflow-sub-hex-to-rgb8
+sub-hex-to-rgb8 : tie.Need-slice_bounds-hex_to_rgb8-count
 sub-hex-to-rgb8 c = search rules
 
-part-hex-to-rgb8-start : tie.Need-slice-bounds-hex-to-rgb8-start
+part-hex-to-rgb8-start : tie.Need-slice_bounds-hex_to_rgb8-start
 part-hex-to-rgb8-start c = search rules
 
-part-hex-to-rgb8-end : tie.Need-slice-bounds-hex-to-rgb8-end
+part-hex-to-rgb8-end : tie.Need-slice_bounds-hex_to_rgb8-end
 part-hex-to-rgb8-end c = search rules
 
-hex-to-rgb8-requires : tie.Need-hex-to-rgb8-requires
+hex-to-rgb8-requires : tie.Need-hex_to_rgb8-requires
 hex-to-rgb8-requires c κs = tt
 
-enum-known-rgb : tie.Need-enum-known-rgb
+enum-known-rgb : tie.Need-enum_known-rgb
 enum-known-rgb c = search rules
 
-enum-known-n : tie.Need-enum-known-n
+enum-known-n : tie.Need-enum_known-n
 enum-known-n c = search rules
 
-returns-2 : tie.Need-returns-2
+returns-2 : tie.Need-returns-in-Colour
 unfolding got_colour hex_of
 returns-2 c =
     let hex-to-rgb8 = c.before.before.before in
     let e = hex-to-rgb8.before.before in
-    rw (hex_at _ _ _ e.before.line-end.ensures e.if1.false, ← hex-to-rgb8.hex-to-rgb8.ensures, c.before.rgb.given.1)
+    rw (hex_at _ _ _ e.before.line_end-end.ensures e.if-end-text.false, ← hex-to-rgb8.hex_to_rgb8.ensures, c.before.rgb-1.given.1)
 
-returns-3 : tie.Need-returns-3
+returns-3 : tie.Need-returns-in-Refused
 unfolding got_colour hex_of
 returns-3 c =
     let hex-to-rgb8 = c.before.before.before in
     let e = hex-to-rgb8.before.before in
-    rw (hex_at _ _ _ e.before.line-end.ensures e.if1.false, ← hex-to-rgb8.hex-to-rgb8.ensures, c.before.n.given.1)
+    rw (hex_at _ _ _ e.before.line_end-end.ensures e.if-end-text.false, ← hex-to-rgb8.hex_to_rgb8.ensures, c.before.n-1.given.1)
 
-pub hex-line-spec : {M : Type 1} → statement M
-hex-line-spec =
+pub hex_line_spec : {M : Type 1} → statement M
+hex_line_spec =
     tie.close
     (tie.spec
     line-end-requires

@@ -11,25 +11,31 @@ use Rattle.silk_reader.proofs.Cursor.natural.Tie as tie
 number-requires : tie.Need-number-requires
 number-requires c κs = tt
 
-enum-known-n : tie.Need-enum-known-n
+enum-known-n : tie.Need-enum_known-n
 enum-known-n c = search rules
 
-enum_told : tie.Need-enum-told
+enum_told : tie.Need-enum_told-1
 enum_told c = search rules
 
-returns : tie.Need-returns
+returns : tie.Need-returns-in_default
 unfolding got_number got_cell natural ◌>>=◌ chain
-returns c = rw (known (got_number _) c.before.before.number.ensures c.enum_told.given.1)
+returns c = rw (known (got_number _) c.before.before.number.ensures c.enum_told-1.given.1)
 
 signed-requires : tie.Need-signed-requires
 unfolding got_number
-signed-requires c κs = number_small _ (known (got_number _) c.before.before.before.number.ensures c.before.n.given.1)
+signed-requires c κs = number_small _ (known (got_number _) c.before.before.before.number.ensures c.before.n-1.given.1)
 
-returns-2 : tie.Need-returns-2
+returns-2 : tie.Need-returns
 unfolding got_number got_cell natural ◌>>=◌ chain give
 returns-2 c =
-    let e = known (got_number _) c.before.before.before.before.number.ensures c.before.before.n.given.1 in
+    let e = known (got_number _) c.before.before.before.before.number.ensures c.before.before.n-1.given.1 in
     rw (e, back (pos_fits _ (number_small _ e)) c.signed.ensures)
 
-pub natural-spec : {M : Type 1} → statement M
-natural-spec = tie.close (tie.spec number-requires enum-known-n enum_told returns signed-requires returns-2)
+pub natural_spec : {M : Type 1} → statement M
+natural_spec = tie.close (tie.spec
+    number-requires
+    enum-known-n
+    enum_told
+    returns
+    signed-requires
+    returns-2)

@@ -12,34 +12,41 @@ use Rattle.silk_reader.proofs.Cursor.negative.Tie as tie
 number-requires : tie.Need-number-requires
 number-requires c κs = tt
 
-enum-known-n : tie.Need-enum-known-n
+enum-known-n : tie.Need-enum_known-n
 enum-known-n c = search rules
 
-enum_told : tie.Need-enum-told
+enum_told : tie.Need-enum_told-1
 enum_told c = search rules
 
-returns : tie.Need-returns
+returns : tie.Need-returns-in_default
 unfolding got_number got_cell negative ◌>>=◌ chain
-returns c = rw (known (got_number _) c.before.before.number.ensures c.enum_told.given.1)
+returns c = rw (known (got_number _) c.before.before.number.ensures c.enum_told-1.given.1)
 
-returns-2 : tie.Need-returns-2
+returns-2 : tie.Need-returns-then-n-eq0
 unfolding got_number got_cell negative ◌>>=◌ chain minus
 returns-2 c =
     let n = c.before.before in
-    rw (known (got_number _) n.before.before.number.ensures n.n.given.1, eq-eqb _ 0 c.if1.true)
+    rw (known (got_number _) n.before.before.number.ensures n.n-1.given.1, eq-eqb _ 0 c.if-n-eq0.true)
 
 negated-requires : tie.Need-negated-requires
 unfolding got_number
 negated-requires c κs =
     let n = c.before.before in
-    number_small _ (known (got_number _) n.before.before.number.ensures n.n.given.1)
+    number_small _ (known (got_number _) n.before.before.number.ensures n.n-1.given.1)
 
-returns-3 : tie.Need-returns-3
+returns-3 : tie.Need-returns
 unfolding got_number got_cell negative ◌>>=◌ chain minus
 returns-3 c =
     let n = c.before.before.before in
-    let e = known (got_number _) n.before.before.number.ensures n.n.given.1 in
-    rw (e, ne_eqb _ 0 c.before.if1.false, back (neg_fits _ (number_small _ e)) c.negated.ensures)
+    let e = known (got_number _) n.before.before.number.ensures n.n-1.given.1 in
+    rw (e, ne_eqb _ 0 c.before.if-n-eq0.false, back (neg_fits _ (number_small _ e)) c.negated.ensures)
 
-pub negative-spec : {M : Type 1} → statement M
-negative-spec = tie.close (tie.spec number-requires enum-known-n enum_told returns returns-2 negated-requires returns-3)
+pub negative_spec : {M : Type 1} → statement M
+negative_spec = tie.close (tie.spec
+    number-requires
+    enum-known-n
+    enum_told
+    returns
+    returns-2
+    negated-requires
+    returns-3)

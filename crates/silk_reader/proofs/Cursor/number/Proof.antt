@@ -8,43 +8,43 @@ use Rattle.silk_reader.proofs.Cursor.number.Statement.{statement}
 use Rattle.silk_reader.proofs.Cursor.number.Tie as tie
 
 -- where the digits end, seen from their test
-abbrev digits_end_lem : tie.After-proper → tie.After-digits-end
+abbrev digits_end_lem : tie.After-proper → tie.After-digits_end-end
 digits_end_lem c = c.before.before.before
 
-digits-end-requires : tie.Need-digits-end-requires
+digits-end-requires : tie.Need-digits_end-end-requires
 digits-end-requires c κs = tt
 
-returns : tie.Need-returns
+returns : tie.Need-returns-then-end-at
 unfolding got_number
-returns c = number_none _ _ _ c.before.digits_end_lem.ensures c.if1.true
+returns c = number_none _ _ _ c.before.digits_end-end.ensures c.if-end-at.true
 
-sub-digits : tie.Need-overflow-sub-digits
+sub-digits : tie.Need-slice_bounds-digits-count
 sub-digits c = omega arith
 
-part-digits-start : tie.Need-slice-bounds-digits-start
+part-digits-start : tie.Need-slice_bounds-digits-start
 part-digits-start c = omega arith
 
-part-digits-end : tie.Need-slice-bounds-digits-end
-part-digits-end c = digits_inside _ _ _ c.before.digits_end_lem.ensures c.if1.false
+part-digits-end : tie.Need-slice_bounds-digits-end
+part-digits-end c = digits_inside _ _ _ c.before.digits_end-end.ensures c.if-end-at.false
 
 proper-requires : tie.Need-proper-requires
 proper-requires c κs = tt
 
-returns-2 : tie.Need-returns-2
+returns-2 : tie.Need-returns-then-not-proper
 unfolding got_number
-returns-2 c = number_no _ _ _ (digits_end_lem c.before).digits_end_lem.ensures (sym c.before.proper.ensures ∙ not_true _ c.if2.true)
+returns-2 c = number_no _ _ _ (digits_end_lem c.before).digits_end-end.ensures (sym c.before.proper.ensures ∙ not_true _ c.if-not-proper.true)
 
 value-requires : tie.Need-value-requires
-value-requires c κs = digits_proper _ _ _ (digits_end_lem c.before).digits_end_lem.ensures (sym c.before.proper.ensures ∙ not_false _ c.if2.false)
+value-requires c κs = digits_proper _ _ _ (digits_end_lem c.before).digits_end-end.ensures (sym c.before.proper.ensures ∙ not_false _ c.if-not-proper.false)
 
-returns-3 : tie.Need-returns-3
+returns-3 : tie.Need-returns
 unfolding got_number
 returns-3 c =
     let proper = c.before.before in
-    rw c.value.ensures (number_yes _ _ _ (digits_end_lem proper).digits_end_lem.ensures (sym proper.proper.ensures ∙ not_false _ c.before.if2.false))
+    rw c.value.ensures (number_yes _ _ _ (digits_end_lem proper).digits_end-end.ensures (sym proper.proper.ensures ∙ not_false _ c.before.if-not-proper.false))
 
-pub number-spec : {M : Type 1} → statement M
-number-spec =
+pub number_spec : {M : Type 1} → statement M
+number_spec =
     tie.close
     (tie.spec
     digits-end-requires

@@ -7,10 +7,14 @@ use Rattle.silk_reader.proofs.Chaining.{pieces}
 use Rattle.silk_reader.proofs.Cursor.outline_line.Statement.{statement}
 use Rattle.silk_reader.proofs.Cursor.outline_line.Tie as tie
 
-pub outline-line-spec : {M : Type 1} → statement M
+pub outline_line_spec : {M : Type 1} → statement M
 unfolding got_bytes got_outline outline_line ◌>>◌ chain codes
-outline-line-spec =
+outline_line_spec =
     tie.close
     (tie.spec
-    (search rules) (search rules) (search rules) (search rules) (λ c. search pieces)
-    (search rules) (λ c. search pieces))
+    (search rules)
+    (search rules)
+    (search rules)
+    (search rules)
+    (search rules)
+    (search rules))

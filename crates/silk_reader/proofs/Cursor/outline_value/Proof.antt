@@ -7,76 +7,68 @@ use Rattle.silk_reader.proofs.Chaining.{known}
 use Rattle.silk_reader.proofs.Cursor.outline_value.Statement.{statement}
 use Rattle.silk_reader.proofs.Cursor.outline_value.Tie as tie
 
-slice-aggregate-bytes : tie.Need-slice-aggregate-bytes
-slice-aggregate-bytes c = search rules
-
 bytes-requires : tie.Need-bytes-requires
 bytes-requires c κs = tt
 
-enum-known-next : tie.Need-enum-known-next
+enum-known-next : tie.Need-enum_known-next
 enum-known-next c = search rules
 
-returns : tie.Need-returns
+returns : tie.Need-returns-in-To
 unfolding got_bytes got_colour got_outline outline_value ◌>>◌ ◌>>=◌ ◌or◌ or_else chain codes give
-returns c = rw (known (got_bytes _) c.before.before.before.bytes.ensures c.before.next.given.1)
+returns c = rw (known (got_bytes _) c.before.before.before.bytes.ensures c.before.next-1.given.1)
 
-enum_told : tie.Need-enum-told
+enum_told : tie.Need-enum_told-1
 enum_told c = search rules
-
-slice-aggregate-bytes-2 : tie.Need-slice-aggregate-bytes-2
-slice-aggregate-bytes-2 c = search rules
 
 bytes-requires-2 : tie.Need-bytes-requires-2
 bytes-requires-2 c κs = tt
 
-enum-known-next-2 : tie.Need-enum-known-next-2
+enum-known-next-2 : tie.Need-enum_known-next-in-To-bytes-2
 enum-known-next-2 c = search rules
 
-returns-2 : tie.Need-returns-2
+returns-2 : tie.Need-returns-in-To-bytes
 unfolding got_bytes got_colour got_outline outline_value ◌>>◌ ◌>>=◌ ◌or◌ or_else chain codes give
 returns-2 c =
     let bytes2 = c.before.before.before in
     let none = bytes2.before.before in
-    rw (known (got_bytes _) none.before.before.bytes.ensures none.enum_told.given.1, known (got_bytes _) bytes2.bytes2.ensures c.before.next2.given.1)
+    rw (known (got_bytes _) none.before.before.bytes.ensures none.enum_told-1.given.1, known (got_bytes _) bytes2.bytes-2.ensures c.before.next-in-To-bytes-2-1.given.1)
 
-enum-told-2 : tie.Need-enum-told-2
+enum-told-2 : tie.Need-enum_told-in_default-bytes
 enum-told-2 c = search rules
 
-hex-line-requires : tie.Need-hex-line-requires
+hex-line-requires : tie.Need-hex_line-requires
 hex-line-requires c κs = tt
 
-enum-known-c : tie.Need-enum-known-c
+enum-known-c : tie.Need-enum_known-c
 enum-known-c c = search rules
 
-enum-known-n : tie.Need-enum-known-n
+enum-known-n : tie.Need-enum_known-n
 enum-known-n c = search rules
 
-returns-3 : tie.Need-returns-3
+returns-3 : tie.Need-returns-in-Value
 unfolding got_bytes got_colour got_outline outline_value ◌>>◌ ◌>>=◌ ◌or◌ or_else chain codes give
 returns-3 c =
     let hex-line = c.before.before.before in
     let auto = hex-line.before in
     let none = auto.before.before.before.before in
-    rw (known (got_bytes _) none.before.before.bytes.ensures none.enum_told.given.1, known (got_bytes _) auto.before.before.bytes2.ensures auto.enum-told2.given.1, known (got_colour _) hex-line.hex-line.ensures c.before.c.given.1)
+    rw (known (got_bytes _) none.before.before.bytes.ensures none.enum_told-1.given.1, known (got_bytes _) auto.before.before.bytes-2.ensures auto.enum_told-in_default-bytes-1.given.1, known (got_colour _) hex-line.hex_line.ensures c.before.c-1.given.1)
 
-returns-4 : tie.Need-returns-4
+returns-4 : tie.Need-returns-in-Refused
 unfolding got_bytes got_colour got_outline outline_value ◌>>◌ ◌>>=◌ ◌or◌ or_else chain codes give
 returns-4 c =
     let hex-line = c.before.before.before in
     let auto = hex-line.before in
     let none = auto.before.before.before.before in
-    rw (known (got_bytes _) none.before.before.bytes.ensures none.enum_told.given.1, known (got_bytes _) auto.before.before.bytes2.ensures auto.enum-told2.given.1, known (got_colour _) hex-line.hex-line.ensures c.before.n.given.1)
+    rw (known (got_bytes _) none.before.before.bytes.ensures none.enum_told-1.given.1, known (got_bytes _) auto.before.before.bytes-2.ensures auto.enum_told-in_default-bytes-1.given.1, known (got_colour _) hex-line.hex_line.ensures c.before.n-1.given.1)
 
-pub outline-value-spec : {M : Type 1} → statement M
-outline-value-spec =
+pub outline_value_spec : {M : Type 1} → statement M
+outline_value_spec =
     tie.close
     (tie.spec
-    slice-aggregate-bytes
     bytes-requires
     enum-known-next
     returns
     enum_told
-    slice-aggregate-bytes-2
     bytes-requires-2
     enum-known-next-2
     returns-2

@@ -12,24 +12,39 @@ use Rattle.silk_reader.proofs.Cursor.passes.Statement.{statement}
 use Rattle.silk_reader.proofs.Cursor.passes.Tie as tie
 
 -- where the first line was read, seen from the fifth: further back than `search` looks by itself
-abbrev first : tie.After-switch-line2 → tie.After-beta
+abbrev first : tie.After-switch_line-2 → tie.In-Value-2
 first c = c.before.before.before.before.before.before.before.before.before.before.before.before.before.before.before.before.before.before
 
 -- where the fifth was read, seen from the end
-abbrev last : tie.After-row-known → tie.After-switch-line2
+abbrev last : tie.After-row_known-1 → tie.After-switch_line-2
 last c = c.before.before.before.before.before.before
 
-pub passes-spec : {M : Type 1} → statement M
+pub passes_spec : {M : Type 1} → statement M
 unfolding got_number got_switch got_passes passes ◌>>=◌ chain codes give decimal of_int
-passes-spec =
+passes_spec =
     tie.close
     (tie.spec
-    (search rules) (search rules) (search rules) (search rules) (λ c. search lines)
-    (search rules) (search rules) (search rules) (search rules) (λ c. search lines)
-    (search rules) (search rules) (search rules) (search rules) (λ c. search lines)
-    (search rules) (search rules) (search rules) (search rules) (λ c. search lines)
-    (search rules) (search rules) (search rules) (search rules)
-    (λ c. search (lines, (first c.before.before).before.before.number-line.ensures, (first c.before.before).beta.given.1) depth 6)
-    (search rules) (λ c κs. search line_small) (search rules)
-    (λ c. rw (c.before.before.hundredths.ensures, back (pos_fits _ (search line_small)) c.before.signed.ensures)
-    (search (lines, (first (last c)).before.before.number-line.ensures, (first (last c)).beta.given.1) depth 6)))
+    (search rules)
+    (search rules)
+    (search rules)
+    (search rules)
+    (search rules)
+    (search rules)
+    (search rules)
+    (search rules)
+    (search rules)
+    (search rules)
+    (search rules)
+    (search rules)
+    (search rules)
+    (search rules)
+    (search rules)
+    (search rules)
+    (search rules)
+    (search rules)
+    (search rules)
+    (search rules)
+    (search rules)
+    (search rules)
+    (search rules)
+    (search rules))

@@ -7,12 +7,24 @@ use Rattle.silk_reader.proofs.Chaining.{lines}
 use Rattle.silk_reader.proofs.Cursor.sizes.Statement.{statement}
 use Rattle.silk_reader.proofs.Cursor.sizes.Tie as tie
 
-pub sizes-spec : {M : Type 1} → statement M
+pub sizes_spec : {M : Type 1} → statement M
 unfolding got_number got_sizes sizes ◌>>=◌ chain codes give
-sizes-spec =
+sizes_spec =
     tie.close
     (tie.spec
-    (search rules) (search rules) (search rules) (search rules) (λ c. search lines)
-    (search rules) (search rules) (search rules) (search rules) (λ c. search lines)
-    (search rules) (search rules) (search rules) (search rules) (λ c. search lines)
-    (search rules) (search rules) (search rules) (λ c. search lines))
+    (search rules)
+    (search rules)
+    (search rules)
+    (search rules)
+    (search rules)
+    (search rules)
+    (search rules)
+    (search rules)
+    (search rules)
+    (search rules)
+    (search rules)
+    (search rules)
+    (search rules)
+    (search rules)
+    (search rules)
+    (search rules))

@@ -9,34 +9,41 @@ use Rattle.silk_reader.proofs.Chaining.{known}
 use Rattle.silk_reader.proofs.Cursor.switch_line.Statement.{statement}
 use Rattle.silk_reader.proofs.Cursor.switch_line.Tie as tie
 
-number-line-requires : tie.Need-number-line-requires
+number-line-requires : tie.Need-number_line-requires
 number-line-requires c κs = tt
 
-enum-known-n : tie.Need-enum-known-n
+enum-known-n : tie.Need-enum_known-n
 enum-known-n c = search rules
 
-enum_told : tie.Need-enum-told
+enum_told : tie.Need-enum_told-1
 enum_told c = search rules
 
-returns : tie.Need-returns
+returns : tie.Need-returns-in_default
 unfolding got_switch got_number switch_line ◌>>=◌ chain
-returns c = rw (known (got_number _) c.before.before.number-line.ensures c.enum_told.given.1)
+returns c = rw (known (got_number _) c.before.before.number_line.ensures c.enum_told-1.given.1)
 
-returns-2 : tie.Need-returns-2
+returns-2 : tie.Need-returns-in-0
 unfolding got_switch got_number switch_line ◌>>=◌ chain switch_of
-returns-2 c = rw (known (got_number _) c.before.before.before.before.number-line.ensures c.before.before.n.given.1, c.match2.keys1)
+returns-2 c = rw (known (got_number _) c.before.before.before.before.number_line.ensures c.before.before.n-1.given.1, c.in-0.keys1)
 
-returns-3 : tie.Need-returns-3
+returns-3 : tie.Need-returns-in-1
 unfolding got_switch got_number switch_line ◌>>=◌ chain switch_of
-returns-3 c = rw (known (got_number _) c.before.before.before.before.number-line.ensures c.before.before.n.given.1, c.match2.keys2)
+returns-3 c = rw (known (got_number _) c.before.before.before.before.number_line.ensures c.before.before.n-1.given.1, c.in-0.keys2)
 
-returns-4 : tie.Need-returns-4
+returns-4 : tie.Need-returns-in_default-n
 unfolding got_switch got_number switch_line ◌>>=◌ chain switch_of
 returns-4 c =
-    let n = c.before.before.n.given.0.0 in
-    let zero : n ≡ 0 → ⊥ = c.match2.rest.0.1 in
-    let one : n ≡ 1 → ⊥ = c.match2.rest.1 in
-    rw (known (got_number _) c.before.before.before.before.number-line.ensures c.before.before.n.given.1, lt-leb n 1 (omega arith))
+    let n = c.before.before.n-1.given.0.0 in
+    let zero : n ≡ 0 → ⊥ = c.in-0.rest.0.1 in
+    let one : n ≡ 1 → ⊥ = c.in-0.rest.1 in
+    rw (known (got_number _) c.before.before.before.before.number_line.ensures c.before.before.n-1.given.1, lt-leb n 1 (omega arith))
 
-pub switch-line-spec : {M : Type 1} → statement M
-switch-line-spec = tie.close (tie.spec number-line-requires enum-known-n enum_told returns returns-2 returns-3 returns-4)
+pub switch_line_spec : {M : Type 1} → statement M
+switch_line_spec = tie.close (tie.spec
+    number-line-requires
+    enum-known-n
+    enum_told
+    returns
+    returns-2
+    returns-3
+    returns-4)

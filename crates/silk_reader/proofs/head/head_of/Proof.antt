@@ -5,14 +5,16 @@ use Rattle.silk_reader.specs.Lines.{head_of}
 use Rattle.silk_reader.proofs.head.head_of.Statement.{statement}
 use Rattle.silk_reader.proofs.head.head_of.Tie as tie
 
-outline-with-requires : tie.Need-outline-with-requires
+outline-with-requires : tie.Need-outline_with-outline-requires
 outline-with-requires c κs = search rules
 
 returns : tie.Need-returns
 unfolding head_of
 returns c =
     let a = c.before.before.before.args in
-    rw (c.before.before.outline-with.ensures, to_z-of_z {w = w32} {z = a.p.min} (record { sfits = c.before.struct_told.given.1.1.0.1 }), to_z-of_z {w = w32} {z = a.o.margin} (record { sfits = c.struct-told2.given.1.1.0.1 }))
+    rw (c.before.before.outline_with-outline.ensures, to_z-of_z {w = w32} {z = a.p.min} (record { sfits = c.before.struct_told-1.given.1.1.0.1 }), to_z-of_z {w = w32} {z = a.o.margin} (record { sfits = c.struct_told-2-1.given.1.1.0.1 }))
 
-pub head-of-spec : {M : Type 1} → statement M
-head-of-spec = tie.close (tie.spec outline-with-requires returns)
+pub head_of_spec : {M : Type 1} → statement M
+head_of_spec = tie.close (tie.spec
+    outline-with-requires
+    returns)

@@ -7,12 +7,14 @@ use Rattle.silk_reader.specs.Lines.{hundredths}
 use Rattle.silk_reader.proofs.head.hundredths.Statement.{statement}
 use Rattle.silk_reader.proofs.head.hundredths.Tie as tie
 
-int-to-float-result : tie.Need-int-to-float-result
+int-to-float-result : tie.Need-int_to_float-result
 int-to-float-result c = search rules
 
 returns : tie.Need-returns
 unfolding hundredths decimal of_int of_bits
 returns c = refl
 
-pub hundredths-spec : {M : Type 1} → statement M
-hundredths-spec = tie.close (tie.spec int-to-float-result returns)
+pub hundredths_spec : {M : Type 1} → statement M
+hundredths_spec = tie.close (tie.spec
+    int-to-float-result
+    returns)

@@ -3,32 +3,32 @@ use Rattle.silk_reader.specs.Lines.{outline_with}
 use Rattle.silk_reader.proofs.head.outline_with.Statement.{statement}
 use Rattle.silk_reader.proofs.head.outline_with.Tie as tie
 
-enum_told : tie.Need-enum-told
+enum_told : tie.Need-enum_told-1
 enum_told c = search rules
 
-enum-told-2 : tie.Need-enum-told-2
+enum-told-2 : tie.Need-enum_told-in-Auto
 enum-told-2 c = search rules
 
 hundredths-requires : tie.Need-hundredths-requires
 hundredths-requires c κs = search rules
 
-enum-known-kind : tie.Need-enum-known-kind
+enum-known-kind : tie.Need-enum_known-kind
 enum-known-kind c = search rules
 
-returns : tie.Need-returns
+returns : tie.Need-returns-in-Nothing
 unfolding outline_with
-returns c = rw c.enum_told.given.1
+returns c = rw c.enum_told-1.given.1
 
-returns-2 : tie.Need-returns-2
+returns-2 : tie.Need-returns-in-Auto
 unfolding outline_with
-returns-2 c = rw (c.before.enum-told2.given.1, c.hundredths.ensures)
+returns-2 c = rw (c.before.enum_told-in-Auto-1.given.1, c.hundredths.ensures)
 
-returns-3 : tie.Need-returns-3
+returns-3 : tie.Need-returns-in-Explicit
 unfolding outline_with
-returns-3 c = rw c.before.kind.given.1
+returns-3 c = rw c.before.kind-1.given.1
 
-pub outline-with-spec : {M : Type 1} → statement M
-outline-with-spec =
+pub outline_with_spec : {M : Type 1} → statement M
+outline_with_spec =
     tie.close
     (tie.spec
     enum_told

@@ -6,27 +6,33 @@ use Rattle.silk_text.specs.Answers.{doubles_read, cells_read}
 use Rattle.silk_text.proofs.sheet.counts_of.Statement.{statement}
 use Rattle.silk_text.proofs.sheet.counts_of.Tie as tie
 
-returns : tie.Need-returns
+returns : tie.Need-returns-in-Sheet
 unfolding doubles_read cells_read
-returns c = rw c.before.before.before.answer.given.1 (refl, refl)
+returns c = rw c.before.before.before.answer-1.given.1 (refl, refl)
 
-returns-2 : tie.Need-returns-2
+returns-2 : tie.Need-returns-in-Refused
 unfolding doubles_read cells_read
-returns-2 c = rw c.enum_told.given.1 (refl, refl)
+returns-2 c = rw c.enum_told-1.given.1 (refl, refl)
 
-enum-known-answer : tie.Need-enum-known-answer
+enum-known-answer : tie.Need-enum_known-answer
 enum-known-answer c = search rules
 
-mul-doubles : tie.Need-overflow-mul-doubles
+mul-doubles : tie.Need-overflow_mul-doubles
 unfolding doubles_read
-mul-doubles c = let told = c.before.before in omega (arith, rw told.answer.given.1 at told.before.before.requires.0)
+mul-doubles c = let told = c.before.before in omega (arith, rw told.answer-1.given.1 at told.before.before.requires.0)
 
-mul-cells : tie.Need-overflow-mul-cells
+mul-cells : tie.Need-overflow_mul-cells
 unfolding cells_read
-mul-cells c = let told = c.before.before.before in omega (arith, rw told.answer.given.1 at told.before.before.requires.1)
+mul-cells c = let told = c.before.before.before in omega (arith, rw told.answer-1.given.1 at told.before.before.requires.1)
 
-enum_told : tie.Need-enum-told
+enum_told : tie.Need-enum_told-1
 enum_told c = search rules
 
-pub counts-of-spec : {M : Type 1} → statement M
-counts-of-spec = tie.close (tie.spec enum-known-answer mul-doubles mul-cells enum_told returns returns-2)
+pub counts_of_spec : {M : Type 1} → statement M
+counts_of_spec = tie.close (tie.spec
+    enum-known-answer
+    mul-doubles
+    mul-cells
+    enum_told
+    returns
+    returns-2)

@@ -6,16 +6,19 @@ use Rattle.silk_text.specs.Format.{max_bytes}
 use Rattle.silk_text.proofs.sheet.limited.Statement.{statement}
 use Rattle.silk_text.proofs.sheet.limited.Tie as tie
 
-slice-aggregate-result : tie.Need-slice-aggregate-result
+slice-aggregate-result : tie.Need-slice_bounds-result-end
 slice-aggregate-result c = sym (length-take-le 65536 c.before.before.args.text.now (omega arith))
 
-returns : tie.Need-returns
+returns : tie.Need-returns-then-text-gt65536
 unfolding max_bytes
 returns c = refl
 
-returns-2 : tie.Need-returns-2
+returns-2 : tie.Need-returns-else-text-gt65536
 unfolding max_bytes
-returns-2 c = sym (take_all 65536 _ c.if1.false)
+returns-2 c = sym (take_all 65536 _ c.if-text-gt65536.false)
 
-pub limited-spec : {M : Type 1} → statement M
-limited-spec = tie.close (tie.spec slice-aggregate-result returns returns-2)
+pub limited_spec : {M : Type 1} → statement M
+limited_spec = tie.close (tie.spec
+    slice-aggregate-result
+    returns
+    returns-2)

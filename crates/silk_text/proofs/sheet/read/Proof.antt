@@ -6,69 +6,69 @@ use Rattle.silk_text.proofs.Keeping.{narrow, short, Handed, handed, handed-left}
 use Rattle.silk_text.proofs.sheet.read.Statement.{statement}
 use Rattle.silk_text.proofs.sheet.read.Tie as tie
 
-abbrev start : tie.After-read-text → tie.Start
+abbrev start : tie.After-read_text-answer → tie.Start
 start c = c.before.before.before.before.before.before.before
 
 -- what is read goes to the lent lists
-handing : (c : tie.After-read-text) →
+handing : (c : tie.After-read_text-answer) →
     Handed (read_into (start c).args.text.now (start c).args.palette.now (start c).args.cells.now) (start c).args.palette.now (start c).args.cells.now
-    c.read-text.result c.read-text.new.1.0 c.read-text.new.1.1.0
+    c.read_text-answer.result c.read_text-answer.new.palette c.read_text-answer.new.cells
 handing c =
     let sized = c.before.before.before in
-    handed _ _ _ _ _ sized.before.if1.false sized.if2.false c.read-text.ensures
+    handed _ _ _ _ _ sized.before.if-palette-lt768.false sized.if-cells-lt1600.false c.read_text-answer.ensures
 
 -- where the doubles are copied, seen from where the cells are to be
-abbrev copied : tie.After-copy-cells-arg → tie.After-copy-doubles
+abbrev copied : tie.After-copy_cells-arg-1 → tie.After-copy_doubles
 copied c = c.before.before.before.before
 
-returns : tie.Need-returns
-returns c = let l = narrow _ _ _ c.if1.true in (l.answers, (l.colours, l.sheet))
+returns : tie.Need-returns-then-palette-lt768
+returns c = let l = narrow _ _ _ c.if-palette-lt768.true in (l.answers, (l.colours-1, l.sheet-1))
 
-returns-2 : tie.Need-returns-2
-returns-2 c = let l = short _ _ _ c.before.if1.false c.if2.true in (l.answers, (l.colours, l.sheet))
+returns-2 : tie.Need-returns-then-cells-lt1600
+returns-2 c = let l = short _ _ _ c.before.if-palette-lt768.false c.if-cells-lt1600.true in (l.answers, (l.colours-1, l.sheet-1))
 
-returns-3 : tie.Need-returns-3
+returns-3 : tie.Need-returns
 returns-3 c =
     let doubles = copied c.before.before in
     let counts = doubles.before.before.before in
-    let told = counts.Counts-of.ensures in
-    let l = handed-left (handing counts.before.before.before) told.0 told.1 doubles.copy-doubles.ensures c.before.copy-cells.ensures in
-    (l.answers, (l.colours, l.sheet))
+    let told = counts.counts_of-counts.ensures in
+    let l = handed-left (handing counts.before.before.before) told.0 told.1 doubles.copy_doubles.ensures c.before.copy_cells.ensures in
+    (l.answers, (l.colours-1, l.sheet-1))
 
-slice-aggregate-read-text : tie.Need-slice-aggregate-read-text
+slice-aggregate-read-text : tie.Need-slice_bounds-read_text-end
 slice-aggregate-read-text c = search rules
 
-slice-aggregate-read-text-2 : tie.Need-slice-aggregate-read-text-2
+slice-aggregate-read-text-2 : tie.Need-slice_bounds-read_text-end-2
 slice-aggregate-read-text-2 c = search rules
 
-read-text-requires : tie.Need-read-text-requires
+read-text-requires : tie.Need-read_text-answer-requires
 read-text-requires c κs = search rules
 
-counts-of-requires : tie.Need-counts-of-requires
+counts-of-requires : tie.Need-counts_of-counts-requires
 counts-of-requires c κs = let h = handing c.before.before in (h.few, h.held)
 
-slice-aggregate-copy-doubles : tie.Need-slice-aggregate-copy-doubles
+slice-aggregate-copy-doubles : tie.Need-slice_bounds-copy_doubles-end
 slice-aggregate-copy-doubles c = search rules
 
-copy-doubles-requires : tie.Need-copy-doubles-requires
+copy-doubles-requires : tie.Need-copy_doubles-requires
 copy-doubles-requires c κs =
     let counts = c.before.before in
     let h = handing counts.before.before.before in
-    (omega (arith, counts.Counts-of.ensures.0, h.few), omega (arith, counts.Counts-of.ensures.0, h.few))
+    (omega (arith, counts.counts_of-counts.ensures.0, h.few), omega (arith, counts.counts_of-counts.ensures.0, h.few))
 
-slice-aggregate-copy-cells : tie.Need-slice-aggregate-copy-cells
+slice-aggregate-copy-cells : tie.Need-slice_bounds-copy_cells-end
 slice-aggregate-copy-cells c = search rules
 
-copy-cells-requires : tie.Need-copy-cells-requires
+copy-cells-requires : tie.Need-copy_cells-requires
 copy-cells-requires c κs =
     let counts = (copied c).before.before.before in
     let h = handing counts.before.before.before in
-    (omega (arith, counts.Counts-of.ensures.1, h.held), omega (arith, counts.Counts-of.ensures.1, h.held))
+    (omega (arith, counts.counts_of-counts.ensures.1, h.held), omega (arith, counts.counts_of-counts.ensures.1, h.held))
 
-same_length : tie.Need-same-length
+same_length : tie.Need-shape_of-palette
 same_length c = search rules
 
-same-length-2 : tie.Need-same-length-2
+same-length-2 : tie.Need-shape_of-cells
 same-length-2 c = search rules
 
 pub read_spec : {M : Type 1} → statement M

@@ -17,69 +17,69 @@ use mir.Facts.{to_z-of_z}
 use Rattle.silk_text.proofs.sheet.read_cells.Statement.{statement}
 use Rattle.silk_text.proofs.sheet.read_cells.Tie as tie
 
-abbrev invariant-loop : tie.invariant-loop
+abbrev invariant-loop : tie.invariant-loop-x
 invariant-loop text w at cells₀ to₀ x₀ cells to x =
     Going cell_at (λ c. c ∷ []) 1 w (drop to₀.at text) at cells₀ x (drop to.at text) cells
 
-abbrev decreases-loop : tie.decreases-loop
+abbrev decreases-loop : tie.decreases-loop-x
 decreases-loop text w at cells₀ to₀ x₀ cells to x = w - x
 
-loop-holds : tie.Need-loop-init invariant-loop decreases-loop
+loop-holds : tie.Need-loop-x-init invariant-loop decreases-loop
 loop-holds c = going_none 1 _ _
 
-cell-at-requires : tie.Need-cell-at-requires invariant-loop decreases-loop
+cell-at-requires : tie.Need-cell_at-requires invariant-loop decreases-loop
 cell-at-requires c κs = tt
 
-enum-known-c : tie.Need-enum-known-c invariant-loop decreases-loop
+enum-known-c : tie.Need-enum_known-c invariant-loop decreases-loop
 enum-known-c c = search rules
 
-enum_told : tie.Need-enum-told invariant-loop decreases-loop
+enum_told : tie.Need-enum_told-1 invariant-loop decreases-loop
 enum_told c = search rules
 
-same_length : tie.Need-same-length invariant-loop decreases-loop
-same_length c = c.before.before.before.before.loop.invariant.kept
+same_length : tie.Need-shape_of-cells-in_default invariant-loop decreases-loop
+same_length c = c.before.before.before.before.loop-x.invariant.kept
 
-returns : tie.Need-returns invariant-loop decreases-loop
+returns : tie.Need-returns-in_default invariant-loop decreases-loop
 unfolding onto got_list_bytes got_cell ◌>>=◌ chain
 returns c =
     let at = c.before.before.before in
-    rw (going_refused 1 _ _ at.before.loop.invariant at.loop-test.true (known (got_cell _) c.before.before.cell-at.ensures c.enum_told.given.1))
+    rw (going_refused 1 _ _ at.before.loop-x.invariant at.loop-x-test.true (known (got_cell _) c.before.before.cell_at.ensures c.enum_told-1.given.1))
 
-add-place : tie.Need-overflow-add-place invariant-loop decreases-loop
+add-place : tie.Need-overflow_add-place invariant-loop decreases-loop
 add-place c = omega arith
 
-mul-c : tie.Need-overflow-mul-c invariant-loop decreases-loop
+mul-c : tie.Need-offset_bounds-cells-place invariant-loop decreases-loop
 mul-c c = omega arith
 
-slice-set-from-c : tie.Need-slice-set-from-c invariant-loop decreases-loop
-slice-set-from-c c = omega (arith, c.before.before.before.before.before.loop.invariant.kept)
+slice-set-from-c : tie.Need-bounds-cells-place invariant-loop decreases-loop
+slice-set-from-c c = omega (arith, c.before.before.before.before.before.loop-x.invariant.kept)
 
-add-x : tie.Need-overflow-add-x invariant-loop decreases-loop
+add-x : tie.Need-overflow_add-x invariant-loop decreases-loop
 add-x c = omega arith
 
-loop-less : tie.Need-loop-smaller invariant-loop decreases-loop
+loop-less : tie.Need-loop-x-smaller invariant-loop decreases-loop
 loop-less c = omega arith
 
-loop-again : tie.Need-loop-preserved invariant-loop decreases-loop
+loop-again : tie.Need-loop-x-preserved invariant-loop decreases-loop
 unfolding got_cell
 loop-again c =
     let cell-at = c.before.before.before in
     let at = cell-at.before in
-    let g = at.before.loop.invariant in
-    let fits : SFits w32 c.before.c.given.0.0 = record { sfits = c.known-told.given.0.1 } in
-    going_more 1 _ _ g at.loop-test.true (known (got_cell _) cell-at.cell-at.ensures c.before.c.given.1) refl (omega arith) {place = at.before.before.before.args.at + at.before.loop.x} (rw (to_z-of_z fits) (laid_one _ _ _ (omega (arith, g.kept)))) (omega arith)
+    let g = at.before.loop-x.invariant in
+    let fits : SFits w32 c.before.c-1.given.0.0 = record { sfits = c.known_told-1.given.0.1 } in
+    going_more 1 _ _ g at.loop-x-test.true (known (got_cell _) cell-at.cell_at.ensures c.before.c-1.given.1) refl (omega arith) {place = at.before.before.before.args.at + at.before.loop-x.x} (rw (to_z-of_z fits) (laid_one _ _ _ (omega (arith, g.kept)))) (omega arith)
 
-same-length-2 : tie.Need-same-length-2 invariant-loop decreases-loop
-same-length-2 c = c.before.loop.invariant.kept
+same-length-2 : tie.Need-shape_of-cells invariant-loop decreases-loop
+same-length-2 c = c.before.loop-x.invariant.kept
 
-returns-2 : tie.Need-returns-2 invariant-loop decreases-loop
+returns-2 : tie.Need-returns invariant-loop decreases-loop
 unfolding onto got_list_bytes got_cell ◌>>=◌ chain give
 returns-2 c =
-    let g = c.before.loop.invariant in
-    rw (going_all 1 _ _ g c.loop-test.false, ← singles g.read, ← g.list)
+    let g = c.before.loop-x.invariant in
+    rw (going_all 1 _ _ g c.loop-x-test.false, ← singles g.read, ← g.list)
 
-pub read-cells-spec : {M : Type 1} → statement M
-read-cells-spec =
+pub read_cells_spec : {M : Type 1} → statement M
+read_cells_spec =
     tie.close
     (tie.spec
     invariant-loop

@@ -14,72 +14,72 @@ use Rattle.silk_text.proofs.Repeating.{Going, going_none, going_more, going_refu
 use Rattle.silk_text.proofs.sheet.read_colours.Statement.{statement}
 use Rattle.silk_text.proofs.sheet.read_colours.Tie as tie
 
-abbrev invariant-loop : tie.invariant-loop
+abbrev invariant-loop : tie.invariant-loop-i
 invariant-loop text colours palette₀ table to₀ i₀ palette to i =
     Going (λ _. colour_line) doubles 3 colours (drop to₀.at text) 0 palette₀ i (drop to.at text) palette
 
-abbrev decreases-loop : tie.decreases-loop
+abbrev decreases-loop : tie.decreases-loop-i
 decreases-loop text colours palette₀ table to₀ i₀ palette to i = colours - i
 
-decode-table-requires : tie.Need-decode-table-requires invariant-loop decreases-loop
+decode-table-requires : tie.Need-decode_table-table-requires invariant-loop decreases-loop
 decode-table-requires c κs = tt
 
-loop-holds : tie.Need-loop-init invariant-loop decreases-loop
+loop-holds : tie.Need-loop-i-init invariant-loop decreases-loop
 loop-holds c = going_none 3 _ 0
 
-colour-line-requires : tie.Need-colour-line-requires invariant-loop decreases-loop
+colour-line-requires : tie.Need-colour_line-requires invariant-loop decreases-loop
 colour-line-requires c κs = tt
 
-enum-known-c : tie.Need-enum-known-c invariant-loop decreases-loop
+enum-known-c : tie.Need-enum_known-c invariant-loop decreases-loop
 enum-known-c c = search rules
 
-slice-aggregate-put-colour : tie.Need-slice-aggregate-put-colour invariant-loop decreases-loop
+slice-aggregate-put-colour : tie.Need-slice_bounds-put_colour-end invariant-loop decreases-loop
 slice-aggregate-put-colour c = search rules
 
-put-colour-requires : tie.Need-put-colour-requires invariant-loop decreases-loop
+put-colour-requires : tie.Need-put_colour-requires invariant-loop decreases-loop
 put-colour-requires c κs =
     let at = c.before.before.before.before.before.before.before in
-    (at.before.decode-table.ensures, omega (arith, at.loop.invariant.kept))
+    (at.before.decode_table-table.ensures, omega (arith, at.loop-i.invariant.kept))
 
-enum-known-n : tie.Need-enum-known-n invariant-loop decreases-loop
+enum-known-n : tie.Need-enum_known-n invariant-loop decreases-loop
 enum-known-n c = search rules
 
-same_length : tie.Need-same-length invariant-loop decreases-loop
-same_length c = c.before.before.before.before.before.loop.invariant.kept
+same_length : tie.Need-shape_of-palette-in-Refused invariant-loop decreases-loop
+same_length c = c.before.before.before.before.before.loop-i.invariant.kept
 
-returns : tie.Need-returns invariant-loop decreases-loop
+returns : tie.Need-returns-in-Refused invariant-loop decreases-loop
 unfolding colour_lines onto got_list got_colour ◌>>=◌ chain
 returns c =
     let colour-line = c.before.before.before in
     let at = colour-line.before in
-    rw (going_refused 3 _ 0 at.before.loop.invariant at.loop-test.true (known (got_colour _) colour-line.colour-line.ensures c.before.n.given.1))
+    rw (going_refused 3 _ 0 at.before.loop-i.invariant at.loop-i-test.true (known (got_colour _) colour-line.colour_line.ensures c.before.n-1.given.1))
 
-add-i : tie.Need-overflow-add-i invariant-loop decreases-loop
+add-i : tie.Need-overflow_add-i invariant-loop decreases-loop
 add-i c = omega arith
 
-loop-less : tie.Need-loop-smaller invariant-loop decreases-loop
+loop-less : tie.Need-loop-i-smaller invariant-loop decreases-loop
 loop-less c = omega arith
 
-loop-again : tie.Need-loop-preserved invariant-loop decreases-loop
+loop-again : tie.Need-loop-i-preserved invariant-loop decreases-loop
 unfolding got_colour doubles
 loop-again c =
     let colour = c.before.before in
     let told = colour.before.before.before.before in
     let line = told.before.before in
     let at = line.before in
-    going_more 3 _ 0 at.before.loop.invariant at.loop-test.true (known (got_colour _) line.colour-line.ensures told.c.given.1) refl (omega arith) colour.put-colour.ensures (omega arith)
+    going_more 3 _ 0 at.before.loop-i.invariant at.loop-i-test.true (known (got_colour _) line.colour_line.ensures told.c-1.given.1) refl (omega arith) colour.put_colour.ensures (omega arith)
 
-same-length-2 : tie.Need-same-length-2 invariant-loop decreases-loop
-same-length-2 c = c.before.loop.invariant.kept
+same-length-2 : tie.Need-shape_of-palette invariant-loop decreases-loop
+same-length-2 c = c.before.loop-i.invariant.kept
 
-returns-2 : tie.Need-returns-2 invariant-loop decreases-loop
+returns-2 : tie.Need-returns invariant-loop decreases-loop
 unfolding colour_lines onto got_list got_colour ◌>>=◌ chain give
 returns-2 c =
-    let g = c.before.loop.invariant in
-    rw (going_all 3 _ 0 g c.loop-test.false, ← g.list)
+    let g = c.before.loop-i.invariant in
+    rw (going_all 3 _ 0 g c.loop-i-test.false, ← g.list)
 
-pub read-colours-spec : {M : Type 1} → statement M
-read-colours-spec =
+pub read_colours_spec : {M : Type 1} → statement M
+read_colours_spec =
     tie.close
     (tie.spec
     invariant-loop

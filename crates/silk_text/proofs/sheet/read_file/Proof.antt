@@ -14,38 +14,38 @@ use Rattle.silk_text.proofs.sheet.read_file.Tie as tie
 head-requires : tie.Need-head-requires
 head-requires c κs = tt
 
-enum-known-h : tie.Need-enum-known-h
+enum-known-h : tie.Need-enum_known-h
 enum-known-h c = search rules
 
-read-lists-requires : tie.Need-read-lists-requires
+read-lists-requires : tie.Need-read_lists-requires
 unfolding got_head
 read-lists-requires c κs =
     let at-h = c.before.before.before in
-    let b = head-is _ (known (got_head _) at-h.before.before.head.ensures at-h.h.given.1) in
+    let b = head-is _ (known (got_head _) at-h.before.before.head.ensures at-h.h-1.given.1) in
     (omega (arith, b.entries), omega (arith, area b))
 
-enum-known-n : tie.Need-enum-known-n
+enum-known-n : tie.Need-enum_known-n
 enum-known-n c = search rules
 
-same_length : tie.Need-same-length
+same_length : tie.Need-shape_of-palette
 same_length c = search rules
 
-same-length-2 : tie.Need-same-length-2
+same-length-2 : tie.Need-shape_of-cells
 same-length-2 c = search rules
 
-returns : tie.Need-returns
+returns : tie.Need-returns-in-Value
 unfolding got_head file ◌>>=◌ chain
 returns c =
     let lists = c.before.before.before in
     let h = lists.before.before.before in
-    rw (known (got_head _) h.before.before.before.head.ensures h.before.h.given.1) lists.read-lists.ensures
+    rw (known (got_head _) h.before.before.before.head.ensures h.before.h-1.given.1) lists.read_lists.ensures
 
-returns-2 : tie.Need-returns-2
+returns-2 : tie.Need-returns-in-Refused
 unfolding got_head got_file file ◌>>=◌ chain
-returns-2 c = sym (lent_no _ _ (rw (known (got_head _) c.before.before.before.head.ensures c.before.n.given.1)))
+returns-2 c = sym (lent_no _ _ (rw (known (got_head _) c.before.before.before.head.ensures c.before.n-1.given.1)))
 
-pub read-file-spec : {M : Type 1} → statement M
-read-file-spec =
+pub read_file_spec : {M : Type 1} → statement M
+read_file_spec =
     tie.close
     (tie.spec
     head-requires

@@ -9,68 +9,68 @@ use Rattle.silk_text.proofs.Whole.{lists_no_colours, lists_no_rows, lists_yes, l
 use Rattle.silk_text.proofs.sheet.read_lists.Statement.{statement}
 use Rattle.silk_text.proofs.sheet.read_lists.Tie as tie
 
-read-colours-requires : tie.Need-read-colours-requires
+read-colours-requires : tie.Need-read_colours-requires
 read-colours-requires c κs = omega arith
 
-enum-known-to : tie.Need-enum-known-to
+enum-known-to : tie.Need-enum_known-to
 enum-known-to c = search rules
 
-read-rows-requires : tie.Need-read-rows-requires
+read-rows-requires : tie.Need-read_rows-requires
 read-rows-requires c κs = omega arith
 
-enum-known-end : tie.Need-enum-known-end
+enum-known-end : tie.Need-enum_known-end
 enum-known-end c = search rules
 
-enum_told : tie.Need-enum-told
+enum_told : tie.Need-enum_told-1
 enum_told c = search rules
 
-same_length : tie.Need-same-length
+same_length : tie.Need-shape_of-palette-in_default
 same_length c = search rules
 
-same-length-2 : tie.Need-same-length-2
+same-length-2 : tie.Need-shape_of-cells-in_default
 same-length-2 c = search rules
 
 -- where the colours are read, seen from what they came to
-abbrev colours : tie.After-to → tie.After-read-colours
+abbrev colours : tie.In-To-2 → tie.After-read_colours
 colours c = c.before.before.before.before
 
-returns : tie.Need-returns
+returns : tie.Need-returns-in_default
 unfolding got_list got_list_bytes got_file
 returns c =
     let rows = c.before.before.before in
     let to = rows.before.before.before in
-    let p = onto_got _ _ _ _ (known (got_list _ _) (colours to).read-colours.ensures to.to.given.1) in
-    sym (lent_no _ _ (lists_no_rows _ _ p.read (onto_no _ _ _ _ (known (got_list_bytes _ _) rows.read-rows.ensures c.enum_told.given.1))))
+    let p = onto_got _ _ _ _ (known (got_list _ _) (colours to).read_colours.ensures to.to-1.given.1) in
+    sym (lent_no _ _ (lists_no_rows _ _ p.read (onto_no _ _ _ _ (known (got_list_bytes _ _) rows.read_rows.ensures c.enum_told-1.given.1))))
 
-enum-known-n : tie.Need-enum-known-n
+enum-known-n : tie.Need-enum_known-n
 enum-known-n c = search rules
 
-same-length-3 : tie.Need-same-length-3
+same-length-3 : tie.Need-shape_of-palette-in-To-read_rows
 same-length-3 c = search rules
 
-same-length-4 : tie.Need-same-length-4
+same-length-4 : tie.Need-shape_of-cells
 same-length-4 c = search rules
 
-returns-2 : tie.Need-returns-2
+returns-2 : tie.Need-returns-in-To-read_rows
 unfolding got_list got_list_bytes got_file
 returns-2 c =
     let rows = c.before.before.before.before in
     let to = rows.before.before.before in
-    let p = onto_got _ _ _ _ (known (got_list _ _) (colours to).read-colours.ensures to.to.given.1) in
-    let l = onto_got _ _ _ _ (known (got_list_bytes _ _) rows.read-rows.ensures c.before.end.given.1) in
+    let p = onto_got _ _ _ _ (known (got_list _ _) (colours to).read_colours.ensures to.to-1.given.1) in
+    let l = onto_got _ _ _ _ (known (got_list_bytes _ _) rows.read_rows.ensures c.before.end-1.given.1) in
     sym (lent_yes _ _ (lists_yes _ _ p.read l.read) p.list l.list)
 
-same-length-5 : tie.Need-same-length-5
+same-length-5 : tie.Need-shape_of-palette-in-Refused
 same-length-5 c = search rules
 
-returns-3 : tie.Need-returns-3
+returns-3 : tie.Need-returns-in-Refused
 unfolding got_list got_file
 returns-3 c =
     let n = c.before in
-    sym (lent_no _ _ (lists_no_colours _ _ (onto_no _ _ _ _ (known (got_list _ _) n.before.before.before.before.read-colours.ensures n.n.given.1))))
+    sym (lent_no _ _ (lists_no_colours _ _ (onto_no _ _ _ _ (known (got_list _ _) n.before.before.before.before.read_colours.ensures n.n-1.given.1))))
 
-pub read-lists-spec : {M : Type 1} → statement M
-read-lists-spec =
+pub read_lists_spec : {M : Type 1} → statement M
+read_lists_spec =
     tie.close
     (tie.spec
     read-colours-requires

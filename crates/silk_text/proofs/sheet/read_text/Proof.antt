@@ -10,78 +10,78 @@ use Rattle.silk_text.proofs.sheet.read_text.Statement.{statement}
 use Rattle.silk_text.proofs.sheet.read_text.Tie as tie
 
 -- where the file is read, seen from the head that it came to
-abbrev read_file : tie.After-h → tie.After-read-file
+abbrev read_file : tie.In-Value-2 → tie.After-read_file
 read_file c = c.before.before.before.before.before
 
-limited-requires : tie.Need-limited-requires
+limited-requires : tie.Need-limited-part-requires
 limited-requires c κs = tt
 
-read-file-requires : tie.Need-read-file-requires
+read-file-requires : tie.Need-read_file-requires
 read-file-requires c κs = omega arith
 
-enum-known-h : tie.Need-enum-known-h
+enum-known-h : tie.Need-enum_known-h
 enum-known-h c = search rules
 
-same_length : tie.Need-same-length
+same_length : tie.Need-shape_of-palette-then-end-part
 same_length c = search rules
 
-same-length-2 : tie.Need-same-length-2
+same-length-2 : tie.Need-shape_of-cells-then-end-part
 same-length-2 c = search rules
 
-returns : tie.Need-returns
+returns : tie.Need-returns-then-end-part
 unfolding got_file got_sheet
 returns c =
     let h = c.before.before.before in
     let file = read_file h in
     let part = file.before.before.before in
-    sym (text_over _ _ _ _ part.limited.ensures _ (known (got_file _ _ _) file.read_file.ensures h.h.given.1) (inl c.if1.true))
+    sym (text_over _ _ _ _ part.limited-part.ensures _ (known (got_file _ _ _) file.read_file.ensures h.h-1.given.1) (inl c.if-end-part.true))
 
-same-length-3 : tie.Need-same-length-3
+same-length-3 : tie.Need-shape_of-palette-then-part-text
 same-length-3 c = search rules
 
-same-length-4 : tie.Need-same-length-4
+same-length-4 : tie.Need-shape_of-cells-then-part-text
 same-length-4 c = search rules
 
-returns-2 : tie.Need-returns-2
+returns-2 : tie.Need-returns-then-part-text
 unfolding got_file got_sheet
 returns-2 c =
     let h = c.before.before.before.before in
     let file = read_file h in
     let part = file.before.before.before in
-    sym (text_over _ _ _ _ part.limited.ensures h.h.given.0.1.0.at (known (got_file _ _ _) file.read_file.ensures h.h.given.1) (inr c.if2.true))
+    sym (text_over _ _ _ _ part.limited-part.ensures h.h-1.given.0.1.0.at (known (got_file _ _ _) file.read_file.ensures h.h-1.given.1) (inr c.if-part-text.true))
 
-enum-known-n : tie.Need-enum-known-n
+enum-known-n : tie.Need-enum_known-n
 enum-known-n c = search rules
 
-same-length-5 : tie.Need-same-length-5
+same-length-5 : tie.Need-shape_of-palette-else-part-text
 same-length-5 c = search rules
 
-same-length-6 : tie.Need-same-length-6
+same-length-6 : tie.Need-shape_of-cells-else-part-text
 same-length-6 c = search rules
 
-returns-3 : tie.Need-returns-3
+returns-3 : tie.Need-returns-else-part-text
 unfolding got_file got_sheet
 returns-3 c =
     let h = c.before.before.before.before in
     let file = read_file h in
     let part = file.before.before.before in
-    sym (text_yes _ _ _ _ part.limited.ensures _ (known (got_file _ _ _) file.read_file.ensures h.h.given.1) c.before.if1.false c.if2.false)
+    sym (text_yes _ _ _ _ part.limited-part.ensures _ (known (got_file _ _ _) file.read_file.ensures h.h-1.given.1) c.before.if-end-part.false c.if-part-text.false)
 
-same-length-7 : tie.Need-same-length-7
+same-length-7 : tie.Need-shape_of-palette-in-Refused
 same-length-7 c = search rules
 
-same-length-8 : tie.Need-same-length-8
+same-length-8 : tie.Need-shape_of-cells-in-Refused
 same-length-8 c = search rules
 
-returns-4 : tie.Need-returns-4
+returns-4 : tie.Need-returns-in-Refused
 unfolding got_file got_sheet
 returns-4 c =
     let file = c.before.before.before.before.before.before in
     let part = file.before.before.before in
-    sym (text_no _ _ _ _ part.limited.ensures (known (got_file _ _ _) file.read_file.ensures c.before.n.given.1))
+    sym (text_no _ _ _ _ part.limited-part.ensures (known (got_file _ _ _) file.read_file.ensures c.before.n-1.given.1))
 
-pub read-text-spec : {M : Type 1} → statement M
-read-text-spec =
+pub read_text_spec : {M : Type 1} → statement M
+read_text_spec =
     tie.close
     (tie.spec
     limited-requires

@@ -10,84 +10,84 @@ use Rattle.verdicts.proofs.Spans.{SpanTurn, span_turn}
 use Rattle.verdicts.proofs.agreeing.agreed.Statement.{statement}
 use Rattle.verdicts.proofs.agreeing.agreed.Tie as tie
 
-abbrev invariant-loop : tie.invariant-loop
+abbrev invariant-loop : tie.invariant-loop-i
 invariant-loop work grid n found₀ i₀ i-end found i = (found ≡ asked_around grid work i₀ (i - i₀)) × (i₀ ≤ i) × (i ≤ i-end)
 
-abbrev decreases-loop : tie.decreases-loop
+abbrev decreases-loop : tie.decreases-loop-i
 decreases-loop work grid n found₀ i₀ i-end found i = i-end - i
 
-abbrev start : tie.At-loop invariant-loop decreases-loop → tie.Start invariant-loop decreases-loop
+abbrev start : tie.At-loop-i invariant-loop decreases-loop → tie.Start invariant-loop decreases-loop
 start c = c.before.before.before
 
 -- the place in turn
-turn : (c : tie.In-loop invariant-loop decreases-loop) → let s = start c.before in SpanTurn (area_of s.args.grid) c.before.loop.i s.args.span s.args.work.now s.args.work.now
-turn c = let s = start c.before in span_turn (sheet-few s.pre.0) s.pre.0.room s.pre.1 refl (λ q l. refl) c.before.loop.invariant.1 c.loop-test.true
+turn : (c : tie.In-loop-i invariant-loop decreases-loop) → let s = start c.before in SpanTurn (area_of s.args.grid) c.before.loop-i.i s.args.span s.args.work.now s.args.work.now
+turn c = let s = start c.before in span_turn (sheet-few s.requires.0) s.requires.0.room s.requires.1 refl (λ q l. refl) c.before.loop-i.invariant.1 c.loop-i-test.true
 
-abbrev turned : tie.After-ask-beside invariant-loop decreases-loop → tie.In-loop invariant-loop decreases-loop
+abbrev turned : tie.After-ask_beside-found invariant-loop decreases-loop → tie.In-loop-i invariant-loop decreases-loop
 turned c = c.before.before
 
-loop-again : tie.Need-loop-preserved invariant-loop decreases-loop
+loop-again : tie.Need-loop-i-preserved invariant-loop decreases-loop
 unfolding asked_around
 loop-again c =
     let i = turned c in
     let s = start i.before in
     let b = turn i in
     let from = s.args.span.from in
-    let k = i.before.loop.i in
+    let k = i.before.loop-i.i in
     let next : k + 1 - from ≡ suc (k - from) = omega (arith, b.low) in
     let here : from + (k - from) ≡ k = omega (arith, b.low) in (
-      rw (next, here) (c.ask-beside.ensures ∙ ap₂ (λ (p t : ℕ). asked_beside s.args.grid s.args.work.now p s.args.grid.steps t) b.is i.before.loop.inv.0),
+      rw (next, here) (c.ask_beside-found.ensures ∙ ap₂ (λ (p t : ℕ). asked_beside s.args.grid s.args.work.now p s.args.grid.steps t) b.is i.before.loop-i.invariant.0),
       omega (arith, b.low),
       omega (arith, b.turn),
     )
 
 -- at the end
-all : (c : tie.After-loop invariant-loop decreases-loop) → let s = start c.before in c.before.loop.found ≡ asked_around s.args.grid s.args.work.now s.args.span.from (s.args.span.to - s.args.span.from)
+all : (c : tie.After-loop-i invariant-loop decreases-loop) → let s = start c.before in c.before.loop-i.found ≡ asked_around s.args.grid s.args.work.now s.args.span.from (s.args.span.to - s.args.span.from)
 all c =
-    let e : c.before.loop.i ≡ (start c.before).args.span.to = omega (arith, c.before.loop.invariant.2, c.loop-test.false) in
-    rw e at c.before.loop.invariant.0
+    let e : c.before.loop-i.i ≡ (start c.before).args.span.to = omega (arith, c.before.loop-i.invariant.2, c.loop-i-test.false) in
+    rw e at c.before.loop-i.invariant.0
 
-returns : tie.Need-returns invariant-loop decreases-loop
+returns : tie.Need-returns-then-found-eq-SEVERAL invariant-loop decreases-loop
 unfolding one_paint
-returns c = rw (← all c.before, eq-eqb c.before.before.loop.found 257 c.if1.true)
+returns c = rw (← all c.before, eq-eqb c.before.before.loop-i.found 257 c.if-found-eq-SEVERAL.true)
 
-returns-2 : tie.Need-returns-2 invariant-loop decreases-loop
+returns-2 : tie.Need-returns invariant-loop decreases-loop
 unfolding one_paint
-returns-2 c = rw (← all c.before, ne_eqb c.before.before.loop.found 257 c.if1.false)
+returns-2 c = rw (← all c.before, ne_eqb c.before.before.loop-i.found 257 c.if-found-eq-SEVERAL.false)
 
-mul-n : tie.Need-overflow-mul-n invariant-loop decreases-loop
+mul-n : tie.Need-overflow_mul-n invariant-loop decreases-loop
 mul-n c = omega (arith, sheet-few c.before.before.requires.0)
 
-loop-holds : tie.Need-loop-init invariant-loop decreases-loop
+loop-holds : tie.Need-loop-i-init invariant-loop decreases-loop
 unfolding asked_around
 loop-holds c = let s = c.before.before in let e : s.args.span.from - s.args.span.from ≡ 0 = omega arith in (rw e, omega arith, s.requires.1.rises)
 
-mul-p : tie.Need-overflow-mul-p invariant-loop decreases-loop
+mul-p : tie.Need-overflow_mul-p invariant-loop decreases-loop
 mul-p c = omega (arith, turn c)
 
-add-p : tie.Need-overflow-add-p invariant-loop decreases-loop
+add-p : tie.Need-overflow_add-p invariant-loop decreases-loop
 add-p c = omega (arith, turn c)
 
-mul-p-2 : tie.Need-overflow-mul-p-2 invariant-loop decreases-loop
+mul-p-2 : tie.Need-offset_bounds-work-n invariant-loop decreases-loop
 mul-p-2 c = omega (arith, turn c)
 
-shared-slice-read-p : tie.Need-shared-slice-read-p invariant-loop decreases-loop
+shared-slice-read-p : tie.Need-bounds-work-n invariant-loop decreases-loop
 shared-slice-read-p c = omega (arith, turn c.before)
 
-cast-p : tie.Need-overflow-cast-p invariant-loop decreases-loop
+cast-p : tie.Need-overflow_cast-p invariant-loop decreases-loop
 cast-p c = omega (arith, turn c.before)
 
-ask-beside-requires : tie.Need-ask-beside-requires invariant-loop decreases-loop
-ask-beside-requires c κs = ((start c.before.before).pre.0, (turn c.before).place)
+ask-beside-requires : tie.Need-ask_beside-found-requires invariant-loop decreases-loop
+ask-beside-requires c κs = ((start c.before.before).requires.0, (turn c.before).place)
 
-add-i : tie.Need-overflow-add-i invariant-loop decreases-loop
+add-i : tie.Need-overflow_step-i invariant-loop decreases-loop
 add-i c = omega (arith, turn (turned c))
 
-loop-less : tie.Need-loop-smaller invariant-loop decreases-loop
+loop-less : tie.Need-loop-i-smaller invariant-loop decreases-loop
 loop-less c = omega (arith, turn (turned c))
 
-pub agreed-spec : {M : Type 1} → statement M
-agreed-spec =
+pub agreed_spec : {M : Type 1} → statement M
+agreed_spec =
     tie.close
     (tie.spec
     invariant-loop

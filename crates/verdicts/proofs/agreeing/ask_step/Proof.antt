@@ -17,94 +17,94 @@ use Rattle.verdicts.proofs.Keeping.{sheet-few}
 use Rattle.verdicts.proofs.agreeing.ask_step.Statement.{statement}
 use Rattle.verdicts.proofs.agreeing.ask_step.Tie as tie
 
-abbrev start : tie.After-struct-told2 → tie.Start
+abbrev start : tie.After-struct_told-2-1 → tie.Start
 start c = c.before.before.before.before
 
 -- what the step finds
 found : (c : tie.After-reached) → c.reached.result ≡ step_of (landing (start c.before).args.grid (start c.before).args.step)
 found c = step_finds (start c.before).requires.1 c.reached.ensures
 
-abbrev stepped : tie.After-known-told → tie.After-reached
+abbrev stepped : tie.In-Cell → tie.After-reached
 stepped c = c.before.before.before
 
-abbrev begun : tie.After-known-told → tie.Start
+abbrev begun : tie.In-Cell → tie.Start
 begun c = start (stepped c).before
 
-abbrev n : tie.After-known-told → ℕ
+abbrev n : tie.In-Cell → ℕ
 n c = area_of (begun c).args.grid
 
 -- the cell that it finds
-abbrev cell : tie.After-known-told → ℕ
-cell c = c.before.q.given.0.0
+abbrev cell : tie.In-Cell → ℕ
+cell c = c.before.q-1.given.0.0
 
-at : (c : tie.After-known-told) → landing (begun c).args.grid (begun c).args.step ≡ some (cell c)
-at c = step_cell (sym (found (stepped c)) ∙ c.before.q.given.1)
+at : (c : tie.In-Cell) → landing (begun c).args.grid (begun c).args.step ≡ some (cell c)
+at c = step_cell (sym (found (stepped c)) ∙ c.before.q-1.given.1)
 
-pub record Inside (c : tie.After-known-told) : Type 0 where
+pub record Inside (c : tie.In-Cell) : Type 0 where
   pub cell : cell c < n c
   pub few : n c ≤ 264196
   pub room : 8 * n c ≤ length (begun c).args.work.now
 
-inside : (c : tie.After-known-told) → Inside c
+inside : (c : tie.In-Cell) → Inside c
 inside c = let b = (begun c).requires.0 in record { cell = (step_sound _ _ _ _ _ _ _ (at c)).inside; few = sheet-few b; room = b.room }
 
 -- what is read is whether it is large, and its paint
-large_is : (c : tie.After-known-told) → get_or (begun c).args.work.now (5 * n c + cell c) 0 ≡ plane (n c) 5 (begun c).args.work.now (cell c)
+large_is : (c : tie.In-Cell) → get_or (begun c).args.work.now (5 * n c + cell c) 0 ≡ plane (n c) 5 (begun c).args.work.now (cell c)
 large_is c = plane_read (n c) 5 (cell c) (5 * n c + cell c) (begun c).args.work.now (omega arith)
 
-paint_is : (c : tie.After-known-told) → get_or (begun c).args.work.now (cell c) 0 ≡ plane (n c) 0 (begun c).args.work.now (cell c)
+paint_is : (c : tie.In-Cell) → get_or (begun c).args.work.now (cell c) 0 ≡ plane (n c) 0 (begun c).args.work.now (cell c)
 paint_is c = plane_read (n c) 0 (cell c) (cell c) (begun c).args.work.now (omega arith)
 
-returns : tie.Need-returns
+returns : tie.Need-returns-in_default
 unfolding asked
-returns c = rw (step_off (sym (found c.before.before) ∙ c.enum_told.given.1))
+returns c = rw (step_off (sym (found c.before.before) ∙ c.enum_told-1.given.1))
 
-returns-2 : tie.Need-returns-2
+returns-2 : tie.Need-returns-then-work-n-eq0
 unfolding asked
-returns-2 c = let q = c.before.before in rw (at q, eq-eqb (plane (n q) 5 (begun q).args.work.now (cell q)) 0 (sym (large_is q) ∙ c.if1.true))
+returns-2 c = let q = c.before.before in rw (at q, eq-eqb (plane (n q) 5 (begun q).args.work.now (cell q)) 0 (sym (large_is q) ∙ c.if-work-n-eq0.true))
 
-returns-3 : tie.Need-returns-3
+returns-3 : tie.Need-returns
 unfolding asked
 returns-3 c =
     let e = c.before.before in
     let q = e.before.before in
-    rw (at q, ne_eqb (plane (n q) 5 (begun q).args.work.now (cell q)) 0 (λ z. e.if1.false (large_is q ∙ z))) (c.join.ensures ∙ ap (joined (begun q).args.so_far) (paint_is q))
+    rw (at q, ne_eqb (plane (n q) 5 (begun q).args.work.now (cell q)) 0 (λ z. e.if-work-n-eq0.false (large_is q ∙ z))) (c.join.ensures ∙ ap (joined (begun q).args.so_far) (paint_is q))
 
-mul-n : tie.Need-overflow-mul-n
+mul-n : tie.Need-overflow_mul-n
 mul-n c = let s = c.before.before in omega (arith, sheet-few s.requires.0)
 
 reached-requires : tie.Need-reached-requires
-reached-requires c κs = let s = start c in step_asks s.pre.1 s.pre.0
+reached-requires c κs = let s = start c in step_asks s.requires.1 s.requires.0
 
-enum-known-q : tie.Need-enum-known-q
+enum-known-q : tie.Need-enum_known-q
 enum-known-q c = search rules
 
-enum_told : tie.Need-enum-told
+enum_told : tie.Need-enum_told-1
 enum_told c = search rules
 
-mul-if1 : tie.Need-overflow-mul-if1
+mul-if1 : tie.Need-overflow_mul-n-2
 mul-if1 c = omega (arith, inside c)
 
-add-if1 : tie.Need-overflow-add-if1
+add-if1 : tie.Need-overflow_add-n
 add-if1 c = omega (arith, inside c)
 
-mul-if1-2 : tie.Need-overflow-mul-if1-2
+mul-if1-2 : tie.Need-offset_bounds-work-n
 mul-if1-2 c = omega (arith, inside c)
 
-shared-slice-read-if1 : tie.Need-shared-slice-read-if1
+shared-slice-read-if1 : tie.Need-bounds-work-n
 shared-slice-read-if1 c = omega (arith, inside c.before)
 
-mul-join : tie.Need-overflow-mul-join
+mul-join : tie.Need-offset_bounds-work-q
 mul-join c = omega (arith, inside c.before.before)
 
-shared-slice-read-join : tie.Need-shared-slice-read-join
+shared-slice-read-join : tie.Need-bounds-work-q
 shared-slice-read-join c = omega (arith, inside c.before.before.before)
 
 join-requires : tie.Need-join-requires
 join-requires c κs = search rules
 
-pub ask-step-spec : {M : Type 1} → statement M
-ask-step-spec =
+pub ask_step_spec : {M : Type 1} → statement M
+ask_step_spec =
     tie.close
     (tie.spec
     mul-n

@@ -4,17 +4,20 @@ use Rattle.verdicts.specs.Agreeing.{joined}
 use Rattle.verdicts.proofs.agreeing.join.Statement.{statement}
 use Rattle.verdicts.proofs.agreeing.join.Tie as tie
 
-returns : tie.Need-returns
+returns : tie.Need-returns-then-so_far-eq0
 unfolding joined
-returns c = let s = c.before in rw (eq-eqb s.args.so_far 0 c.if1.true)
+returns c = let s = c.before in rw (eq-eqb s.args.so_far 0 c.if-so_far-eq0.true)
 
-returns-2 : tie.Need-returns-2
+returns-2 : tie.Need-returns-then-so_far-paint
 unfolding joined
-returns-2 c = let e = c.before in let s = e.before in rw (ne_eqb s.args.so_far 0 e.if1.false, eq-eqb s.args.so_far s.args.paint c.if2.true)
+returns-2 c = let e = c.before in let s = e.before in rw (ne_eqb s.args.so_far 0 e.if-so_far-eq0.false, eq-eqb s.args.so_far s.args.paint c.if-so_far-paint.true)
 
-returns-3 : tie.Need-returns-3
+returns-3 : tie.Need-returns
 unfolding joined
-returns-3 c = let e = c.before in let s = e.before in rw (ne_eqb s.args.so_far 0 e.if1.false, ne_eqb s.args.so_far s.args.paint c.if2.false)
+returns-3 c = let e = c.before in let s = e.before in rw (ne_eqb s.args.so_far 0 e.if-so_far-eq0.false, ne_eqb s.args.so_far s.args.paint c.if-so_far-paint.false)
 
-pub join-spec : {M : Type 1} → statement M
-join-spec = tie.close (tie.spec returns returns-2 returns-3)
+pub join_spec : {M : Type 1} → statement M
+join_spec = tie.close (tie.spec
+    returns
+    returns-2
+    returns-3)

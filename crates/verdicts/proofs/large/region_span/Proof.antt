@@ -6,27 +6,33 @@ use Rattle.grid.specs.Planes.{end_of}
 use Rattle.verdicts.proofs.large.region_span.Statement.{statement}
 use Rattle.verdicts.proofs.large.region_span.Tie as tie
 
-region-end-requires : tie.Need-region-end-requires
+region-end-requires : tie.Need-region_end-from-requires
 region-end-requires c κs = search rules
 
-cast-from : tie.Need-overflow-cast-from
+cast-from : tie.Need-overflow_cast-from
 cast-from c = search rules
 
-add-next : tie.Need-overflow-add-next
+add-next : tie.Need-overflow_add-next
 add-next c = search rules
 
-region-end-requires-2 : tie.Need-region-end-requires-2
+region-end-requires-2 : tie.Need-region_end-to-requires
 region-end-requires-2 c κs = search rules
 
-cast-to : tie.Need-overflow-cast-to
+cast-to : tie.Need-overflow_cast-to
 cast-to c = search rules
 
 returns : tie.Need-returns
 returns c =
     let s = c.before.before.before in
-    (c.before.region-end.ensures, c.region-end2.ensures ∙ ap (end_of s.args.n s.args.work.now) (add-one s.args.at))
+    (c.before.region_end-from.ensures, c.region_end-to.ensures ∙ ap (end_of s.args.n s.args.work.now) (add-one s.args.at))
 
-pub region-span-spec : {M : Type 1} → statement M
-region-span-spec =
+pub region_span_spec : {M : Type 1} → statement M
+region_span_spec =
     tie.close
-    (tie.spec region-end-requires cast-from add-next region-end-requires-2 cast-to returns)
+    (tie.spec
+    region-end-requires
+    cast-from
+    add-next
+    region-end-requires-2
+    cast-to
+    returns)

@@ -8,49 +8,49 @@ use Rattle.verdicts.proofs.Choosing.{peak-start, peak-more, peak-same}
 use Rattle.verdicts.proofs.target.most.Statement.{statement}
 use Rattle.verdicts.proofs.target.most.Tie as tie
 
-abbrev invariant-loop : tie.invariant-loop
+abbrev invariant-loop : tie.invariant-loop-c
 invariant-loop counts k best₀ c₀ best c = (best ≡ peak counts c) × (c ≤ k)
 
-abbrev decreases-loop : tie.decreases-loop
+abbrev decreases-loop : tie.decreases-loop-c
 decreases-loop counts k best₀ c₀ best c = k - c
 
-loop-holds : tie.Need-loop-init invariant-loop decreases-loop
+loop-holds : tie.Need-loop-c-init invariant-loop decreases-loop
 loop-holds c = (peak-start _, omega arith)
 
-mul-if1 : tie.Need-overflow-mul-if1 invariant-loop decreases-loop
+mul-if1 : tie.Need-offset_bounds-counts-c invariant-loop decreases-loop
 mul-if1 c = omega arith
 
-element-copy-out-if1 : tie.Need-element-copy-out-if1 invariant-loop decreases-loop
+element-copy-out-if1 : tie.Need-bounds-counts-c invariant-loop decreases-loop
 element-copy-out-if1 c = omega arith
 
-mul-best : tie.Need-overflow-mul-best invariant-loop decreases-loop
+mul-best : tie.Need-offset_bounds-counts-c-then-best-counts invariant-loop decreases-loop
 mul-best c = omega arith
 
-element-copy-out-best : tie.Need-element-copy-out-best invariant-loop decreases-loop
+element-copy-out-best : tie.Need-bounds-counts-c-then-best-counts invariant-loop decreases-loop
 element-copy-out-best c = omega arith
 
-add-c : tie.Need-overflow-add-c invariant-loop decreases-loop
+add-c : tie.Need-overflow_step-c invariant-loop decreases-loop
 add-c c = omega arith
 
-loop-less : tie.Need-loop-smaller invariant-loop decreases-loop
+loop-less : tie.Need-loop-c-smaller invariant-loop decreases-loop
 loop-less c = omega arith
 
-loop-again : tie.Need-loop-preserved invariant-loop decreases-loop
+loop-again : tie.Need-loop-c-preserved invariant-loop decreases-loop
 loop-again c =
     let a = c.before.before.before in
     let l = a.before.args.counts.now in
     ⊎_elim
-    (λ w. (w.2 ∙ peak-more l a.loop.c a.loop.best a.loop.invariant.0 w.0.taken, omega arith))
-    (λ w. (w.1 ∙ peak-same l a.loop.c a.loop.best a.loop.invariant.0 w.0.left, omega arith))
-    c.if1.branch
+    (λ w. (w.2 ∙ peak-more l a.loop-c.c a.loop-c.best a.loop-c.invariant.0 w.0.taken, omega arith))
+    (λ w. (w.1 ∙ peak-same l a.loop-c.c a.loop-c.best a.loop-c.invariant.0 w.0.left, omega arith))
+    c.if-best-counts.branch-raw
 
 returns : tie.Need-returns invariant-loop decreases-loop
 returns c =
-    let e : c.before.loop.c ≡ c.before.before.args.k = omega arith in
-    c.before.loop.invariant.0 ∙ ap (peak c.before.before.args.counts.now) e
+    let e : c.before.loop-c.c ≡ c.before.before.args.k = omega arith in
+    c.before.loop-c.invariant.0 ∙ ap (peak c.before.before.args.counts.now) e
 
-pub most-spec : {M : Type 1} → statement M
-most-spec =
+pub most_spec : {M : Type 1} → statement M
+most_spec =
     tie.close
     (tie.spec
     invariant-loop

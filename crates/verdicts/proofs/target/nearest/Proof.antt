@@ -9,64 +9,64 @@ use Rattle.verdicts.proofs.Choosing.{nearest-start, nearest-more, nearest-same}
 use Rattle.verdicts.proofs.target.nearest.Statement.{statement}
 use Rattle.verdicts.proofs.target.nearest.Tie as tie
 
-abbrev invariant-loop : tie.invariant-loop
+abbrev invariant-loop : tie.invariant-loop-c
 invariant-loop counts m palette k own from best₀ c₀ best c = (best ≡ nearest (entry_distance palette own) counts m c) × (c ≤ k)
 
-abbrev decreases-loop : tie.decreases-loop
+abbrev decreases-loop : tie.decreases-loop-c
 decreases-loop counts m palette k own from best₀ c₀ best c = k - c
 
-entry-requires : tie.Need-entry-requires invariant-loop decreases-loop
+entry-requires : tie.Need-entry-from-requires invariant-loop decreases-loop
 entry-requires c κs = omega arith
 
-loop-holds : tie.Need-loop-init invariant-loop decreases-loop
+loop-holds : tie.Need-loop-c-init invariant-loop decreases-loop
 loop-holds c = (nearest-start _ _ _, omega arith)
 
-mul-if1 : tie.Need-overflow-mul-if1 invariant-loop decreases-loop
+mul-if1 : tie.Need-offset_bounds-counts-c invariant-loop decreases-loop
 mul-if1 c = omega arith
 
-element-copy-out-if1 : tie.Need-element-copy-out-if1 invariant-loop decreases-loop
+element-copy-out-if1 : tie.Need-bounds-counts-c invariant-loop decreases-loop
 element-copy-out-if1 c = omega arith
 
-entry-requires-2 : tie.Need-entry-requires-2 invariant-loop decreases-loop
+entry-requires-2 : tie.Need-entry-requires invariant-loop decreases-loop
 entry-requires-2 c κs = omega arith
 
 distance-requires : tie.Need-distance-requires invariant-loop decreases-loop
 distance-requires c κs = tt
 
-nearer-requires : tie.Need-nearer-requires invariant-loop decreases-loop
+nearer-requires : tie.Need-nearer-best-requires invariant-loop decreases-loop
 nearer-requires c κs = tt
 
-add-c : tie.Need-overflow-add-c invariant-loop decreases-loop
+add-c : tie.Need-overflow_step-c invariant-loop decreases-loop
 add-c c = omega arith
 
-loop-less : tie.Need-loop-smaller invariant-loop decreases-loop
+loop-less : tie.Need-loop-c-smaller invariant-loop decreases-loop
 loop-less c = omega arith
 
-loop-again : tie.Need-loop-preserved invariant-loop decreases-loop
+loop-again : tie.Need-loop-c-preserved invariant-loop decreases-loop
 unfolding entry_distance
 loop-again c =
     let l = c.before.before.before in
     let s = l.before.before.before in
-    let i = l.loop.c in
+    let i = l.loop-c.c in
     let u = s.args.palette.now in
     ⊎_elim
     (λ w. (
       w.4 ∙ w.3.ensures
-          ∙ ap (nearer l.loop.best i) (w.2.ensures ∙ ap₂ distance l.before.entry.ensures w.1.ensures)
-          ∙ nearest-more (entry_distance u s.args.own_val) s.args.counts.now s.args.m i l.loop.best l.loop.invariant.0 w.0.taken,
+          ∙ ap (nearer l.loop-c.best i) (w.2.ensures ∙ ap₂ distance l.before.entry-from.ensures w.1.ensures)
+          ∙ nearest-more (entry_distance u s.args.own_val) s.args.counts.now s.args.m i l.loop-c.best l.loop-c.invariant.0 w.0.taken,
       omega arith,
     ))
-    (λ w. (w.1 ∙ nearest-same (entry_distance u s.args.own_val) s.args.counts.now s.args.m i l.loop.best l.loop.invariant.0 w.0.left, omega arith))
-    c.if1.branch
+    (λ w. (w.1 ∙ nearest-same (entry_distance u s.args.own_val) s.args.counts.now s.args.m i l.loop-c.best l.loop-c.invariant.0 w.0.left, omega arith))
+    c.if-counts-c.branch-raw
 
 returns : tie.Need-returns invariant-loop decreases-loop
 returns c =
     let s = c.before.before.before.before in
-    let e : c.before.loop.c ≡ s.args.k = omega arith in
-    c.before.loop.invariant.0 ∙ ap (nearest (entry_distance s.args.palette.now s.args.own_val) s.args.counts.now s.args.m) e
+    let e : c.before.loop-c.c ≡ s.args.k = omega arith in
+    c.before.loop-c.invariant.0 ∙ ap (nearest (entry_distance s.args.palette.now s.args.own_val) s.args.counts.now s.args.m) e
 
-pub nearest-spec : {M : Type 1} → statement M
-nearest-spec =
+pub nearest_spec : {M : Type 1} → statement M
+nearest_spec =
     tie.close
     (tie.spec
     invariant-loop

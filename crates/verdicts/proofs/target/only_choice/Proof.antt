@@ -16,7 +16,7 @@ returns c =
     let d = c.before in
     let e = d.before in
     let s = e.before.before.before in
-    c.decide.ensures ∙ ap (λ (b : Bool). cond b (s.args.c + 2) 1) (d.closer-than.ensures ∙ ap₂ (λ (p q : Lab). lt (distance p q) s.args.max-delta) e.before.entry.ensures e.entry2.ensures)
+    c.decide.ensures ∙ ap (λ (b : Bool). cond b (s.args.c + 2) 1) (d.closer_than-near.ensures ∙ ap₂ (λ (p q : Lab). lt (distance p q) s.args.max-delta) e.before.entry.ensures e.entry-2.ensures)
 
 entry-requires : tie.Need-entry-requires
 entry-requires c κs = search rules
@@ -24,14 +24,14 @@ entry-requires c κs = search rules
 entry-requires-2 : tie.Need-entry-requires-2
 entry-requires-2 c κs = search rules
 
-closer-than-requires : tie.Need-closer-than-requires
+closer-than-requires : tie.Need-closer_than-near-requires
 closer-than-requires c κs = search rules
 
 decide-requires : tie.Need-decide-requires
 decide-requires c κs = search rules
 
-pub only-choice-spec : {M : Type 1} → statement M
-only-choice-spec =
+pub only_choice_spec : {M : Type 1} → statement M
+only_choice_spec =
     tie.close
     (tie.spec
     entry-requires

@@ -10,16 +10,16 @@ use borrow.Author.Rules.{rules}
 use Rattle.verdicts.proofs.voting.ask.Statement.{statement}
 use Rattle.verdicts.proofs.voting.ask.Tie as tie
 
-mul-last : tie.Need-overflow-mul-last
+mul-last : tie.Need-overflow_mul-last
 mul-last c = search rules
 
-add-last : tie.Need-overflow-add-last
+add-last : tie.Need-overflow_add-last
 add-last c = search rules
 
-mul-last-2 : tie.Need-overflow-mul-last-2
+mul-last-2 : tie.Need-offset_bounds-work-n
 mul-last-2 c = search rules
 
-slice-read-last : tie.Need-slice-read-last
+slice-read-last : tie.Need-bounds-work-n
 slice-read-last c = search rules
 
 marked : (s : tie.Start) → s.args.mark ≡ 0 → ⊥
@@ -29,101 +29,101 @@ marked s e = omega (arith, s.requires.1.0.1)
 mark-is : (s : tie.Start) → get_or s.args.work.now (5 * s.args.n + s.args.q) 0 ≡ plane s.args.n 5 s.args.work.now s.args.q
 mark-is s = plane_read s.args.n 5 s.args.q (5 * s.args.n + s.args.q) s.args.work.now (omega arith)
 
-returns : tie.Need-returns
+returns : tie.Need-returns-then-last-eq0
 returns c =
     let s = c.before.before in
     polled_silent s.args.n s.args.mark (marked s) s.args.q s.requires.1.0.0 s.args.work.now s.args.counts.now s.requires.1.1
-    (λ z. absurd (z (sym (mark-is s) ∙ c.if1.true)))
+    (λ z. absurd (z (sym (mark-is s) ∙ c.if-last-eq0.true)))
 
-returns-2 : tie.Need-returns-2
+returns-2 : tie.Need-returns-then-last-mark
 returns-2 c =
     let s = c.before.before.before in
     polled_silent s.args.n s.args.mark (marked s) s.args.q s.requires.1.0.0 s.args.work.now s.args.counts.now s.requires.1.1
-    (λ z. sym (mark-is s) ∙ c.if2.true)
+    (λ z. sym (mark-is s) ∙ c.if-last-mark.true)
 
-abbrev start : tie.Else2 → tie.Start
+abbrev start : tie.Else-last-mark → tie.Start
 start c = c.before.before.before
 
-large : (c : tie.Else2) → plane (start c).args.n 5 (start c).args.work.now (start c).args.q ≡ 0 → ⊥
-large c e = c.before.if1.false (mark-is (start c) ∙ e)
+large : (c : tie.Else-last-mark) → plane (start c).args.n 5 (start c).args.work.now (start c).args.q ≡ 0 → ⊥
+large c e = c.before.if-last-eq0.false (mark-is (start c) ∙ e)
 
-paint_is : (c : tie.Else2) → get_or (start c).args.work.now (start c).args.q 0 ≡ plane (start c).args.n 0 (start c).args.work.now (start c).args.q
+paint_is : (c : tie.Else-last-mark) → get_or (start c).args.work.now (start c).args.q 0 ≡ plane (start c).args.n 0 (start c).args.work.now (start c).args.q
 paint_is c = let s = start c in plane_read s.args.n 0 s.args.q s.args.q s.args.work.now (omega arith)
 
 -- the cell's paint is that of an index below 256
-pub record Bounds (c : tie.Else2) : Type 0 where
+pub record Bounds (c : tie.Else-last-mark) : Type 0 where
   pub some : 1 ≤ get_or (start c).args.work.now (start c).args.q 0
   pub most : get_or (start c).args.work.now (start c).args.q 0 ≤ 256
   pub few : (start c).args.n ≤ 264196
   pub room : 8 * (start c).args.n ≤ length (start c).args.work.now
   pub inside : (start c).args.q < (start c).args.n
 
-bounds : (c : tie.Else2) → Bounds c
+bounds : (c : tie.Else-last-mark) → Bounds c
 bounds c =
     let s = start c in
-    let r = s.pre.0 in
+    let r = s.requires.0 in
     record {
-      some = rw (paint_is c) (r.large s.args.q s.pre.1.0.0 (large c));
-      most = rw (paint_is c) (r.paint s.args.q s.pre.1.0.0);
+      some = rw (paint_is c) (r.large s.args.q s.requires.1.0.0 (large c));
+      most = rw (paint_is c) (r.paint s.args.q s.requires.1.0.0);
       few = r.few;
       room = r.room;
-      inside = s.pre.1.0.0;
+      inside = s.requires.1.0.0;
     }
 
-mul-paint : tie.Need-overflow-mul-paint
+mul-paint : tie.Need-offset_bounds-work-q
 mul-paint c = search rules
 
-slice-read-paint : tie.Need-slice-read-paint
+slice-read-paint : tie.Need-bounds-work-q
 slice-read-paint c = search rules
 
-cast-paint : tie.Need-overflow-cast-paint
+cast-paint : tie.Need-overflow_cast-paint
 cast-paint c = omega (arith, bounds c.before)
 
-sub-c : tie.Need-overflow-sub-c
+sub-c : tie.Need-overflow_sub-c
 sub-c c = omega (arith, bounds c.before)
 
-mul-work : tie.Need-overflow-mul-work
+mul-work : tie.Need-overflow_mul-work
 mul-work c = search rules
 
-add-work : tie.Need-overflow-add-work
+add-work : tie.Need-overflow_add-work
 add-work c = search rules
 
-mul-work-2 : tie.Need-overflow-mul-work-2
+mul-work-2 : tie.Need-offset_bounds-work-n-2
 mul-work-2 c = search rules
 
-slice-write-work : tie.Need-slice-write-work
+slice-write-work : tie.Need-bounds-work-n-2
 slice-write-work c = search rules
 
-mul-counts : tie.Need-overflow-mul-counts
+mul-counts : tie.Need-offset_bounds-counts-c
 mul-counts c = omega (arith, bounds c.before)
 
-element-copy-out-counts : tie.Need-element-copy-out-counts
+element-copy-out-counts : tie.Need-bounds-counts-c
 element-copy-out-counts c = omega (arith, bounds c.before)
 
-add-counts : tie.Need-overflow-add-counts
+add-counts : tie.Need-overflow_add-counts
 add-counts c =
     let a = c.before.before in
     let s = start a in
-    let l = tally_le s.pre.1.1 (get_or s.args.work.now s.args.q 0 - 1) (omega (arith, bounds a)) in
+    let l = tally_le s.requires.1.1 (get_or s.args.work.now s.args.q 0 - 1) (omega (arith, bounds a)) in
     omega (arith, bounds a)
 
-element-write-counts : tie.Need-element-write-counts
+element-write-counts : tie.Need-bounds-counts-c-2
 element-write-counts c = omega (arith, bounds c.before.before)
 
-same_length : tie.Need-same-length
+same_length : tie.Need-shape_of-work
 same_length c = search rules
 
-returns-3 : tie.Need-returns-3
+returns-3 : tie.Need-returns
 returns-3 c =
     let a = c.before.before in
     let s = start a in
-    polled_cast s.args.n s.args.mark (marked s) s.args.q s.pre.1.0.0 s.args.work.now s.args.counts.now s.pre.1.1
+    polled_cast s.args.n s.args.mark (marked s) s.args.q s.requires.1.0.0 s.args.work.now s.args.counts.now s.requires.1.1
     (get_or s.args.work.now s.args.q 0 - 1) (5 * s.args.n + s.args.q) (omega arith) (omega (arith, bounds a)) (large a)
-    (λ z. a.if2.false (mark-is s ∙ z))
+    (λ z. a.if-last-mark.false (mark-is s ∙ z))
     (sym (paint_is a) ∙ omega (arith, bounds a)) (omega (arith, bounds a))
 
-pub ask-spec : {M : Type 1} → statement M
-ask-spec =
+pub ask_spec : {M : Type 1} → statement M
+ask_spec =
     tie.close
     (tie.spec
     mul-last

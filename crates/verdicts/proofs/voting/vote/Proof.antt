@@ -15,59 +15,59 @@ use Rattle.verdicts.proofs.voting.vote.Tie as tie
 marked : (s : tie.Start) → s.args.mark ≡ 0 → ⊥
 marked s e = omega (arith, s.requires.0.2)
 
-abbrev start : tie.After-struct-told2 → tie.Start
+abbrev start : tie.After-struct_told-2-1 → tie.Start
 start c = c.before.before.before
 
 reached-requires : tie.Need-reached-requires
-reached-requires c κs = let s = start c in step_asks s.pre.0.1 s.pre.0.0
+reached-requires c κs = let s = start c in step_asks s.requires.0.1 s.requires.0.0
 
 -- what the step finds
 found : (c : tie.After-reached) → c.reached.result ≡ step_of (landing (start c.before).args.grid (start c.before).args.step)
 found c = step_finds (start c.before).requires.0.1 c.reached.ensures
 
-enum-known-q : tie.Need-enum-known-q
+enum-known-q : tie.Need-enum_known-q
 enum-known-q c = search rules
 
-enum_told : tie.Need-enum-told
+enum_told : tie.Need-enum_told-1
 enum_told c = search rules
 
-returns : tie.Need-returns
+returns : tie.Need-returns-in_default
 returns c =
     let a = c.before.before in
     let s = start a.before in
-    polled_off (area_of s.args.grid) s.args.mark (marked s) (step_off (sym (found a) ∙ c.enum_told.given.1)) s.pre.1
+    polled_off (area_of s.args.grid) s.args.mark (marked s) (step_off (sym (found a) ∙ c.enum_told-1.given.1)) s.requires.1
 
-abbrev begun : tie.After-q → tie.Start
+abbrev begun : tie.In-Cell-2 → tie.Start
 begun c = start c.before.before.before
 
 -- the cell that it finds
-at : (c : tie.After-q) → landing (begun c).args.grid (begun c).args.step ≡ some c.q.given.0.0
-at c = step_cell (sym (found c.before.before) ∙ c.q.given.1)
+at : (c : tie.In-Cell-2) → landing (begun c).args.grid (begun c).args.step ≡ some c.q-1.given.0.0
+at c = step_cell (sym (found c.before.before) ∙ c.q-1.given.1)
 
-mul-n : tie.Need-overflow-mul-n
+mul-n : tie.Need-overflow_mul-n
 mul-n c = omega (arith, sheet-few (begun c.before.before).requires.0.0)
 
-abbrev asked : tie.After-ask-arg2 → tie.After-q
+abbrev asked : tie.After-ask-arg-2-1 → tie.In-Cell-2
 asked c = c.before.before.before.before
 
 ask-requires : tie.Need-ask-requires
 ask-requires c κs =
     let a = asked c in
     let s = begun a in
-    (sheet-votes s.pre.0.0, (((step_sound _ _ _ _ _ _ _ (at a)).inside, s.pre.0.2), s.pre.1))
+    (sheet-votes s.requires.0.0, (((step_sound _ _ _ _ _ _ _ (at a)).inside, s.requires.0.2), s.requires.1))
 
-same_length : tie.Need-same-length
+same_length : tie.Need-shape_of-work
 same_length c = search rules
 
-returns-2 : tie.Need-returns-2
+returns-2 : tie.Need-returns
 returns-2 c =
     let v = c.before.before in
     let a = asked v.before in
     let s = begun a in
-    polled_on (area_of s.args.grid) s.args.mark (marked s) a.q.given.0.0 (at a) v.ask.ensures
+    polled_on (area_of s.args.grid) s.args.mark (marked s) a.q-1.given.0.0 (at a) v.ask.ensures
 
-pub vote-spec : {M : Type 1} → statement M
-vote-spec =
+pub vote_spec : {M : Type 1} → statement M
+vote_spec =
     tie.close
     (tie.spec
     reached-requires

@@ -5,7 +5,11 @@ use Rattle.replay.proofs.comparison.Comparison.bytes.Statement.{statement}
 use Rattle.replay.proofs.comparison.Comparison.bytes.Tie as tie
 
 returns : tie.Need-returns
-returns c = one_list _ _ _ _ _ c.before.before.before.at.ensures c.before.before.end.ensures c.before.same_bytes.ensures
+returns c = one_list _ _ _ _ _ c.before.before.before.at-a.ensures c.before.before.end.ensures c.before.same_bytes.ensures
 
-pub bytes-spec : {M : Type 1} → statement M
-bytes-spec = tie.close (tie.spec (search rules) (search rules) (search rules) returns)
+pub bytes_spec : {M : Type 1} → statement M
+bytes_spec = tie.close (tie.spec
+    (search rules)
+    (search rules)
+    (search rules)
+    returns)

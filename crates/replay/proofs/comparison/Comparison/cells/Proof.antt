@@ -5,7 +5,11 @@ use Rattle.replay.proofs.comparison.Comparison.cells.Statement.{statement}
 use Rattle.replay.proofs.comparison.Comparison.cells.Tie as tie
 
 returns : tie.Need-returns
-returns c = one_list _ _ _ _ _ c.before.before.before.at.ensures c.before.before.end.ensures c.before.same-cells.ensures
+returns c = one_list _ _ _ _ _ c.before.before.before.at-a.ensures c.before.before.end.ensures c.before.same_cells.ensures
 
-pub cells-spec : {M : Type 1} → statement M
-cells-spec = tie.close (tie.spec (search rules) (search rules) (search rules) returns)
+pub cells_spec : {M : Type 1} → statement M
+cells_spec = tie.close (tie.spec
+    (search rules)
+    (search rules)
+    (search rules)
+    returns)

@@ -5,7 +5,11 @@ use Rattle.replay.proofs.comparison.Comparison.words.Statement.{statement}
 use Rattle.replay.proofs.comparison.Comparison.words.Tie as tie
 
 returns : tie.Need-returns
-returns c = one_list _ _ _ _ _ c.before.before.before.at.ensures c.before.before.end.ensures c.before.same-words.ensures
+returns c = one_list _ _ _ _ _ c.before.before.before.at-a.ensures c.before.before.end.ensures c.before.same_words.ensures
 
-pub words-spec : {M : Type 1} → statement M
-words-spec = tie.close (tie.spec (search rules) (search rules) (search rules) returns)
+pub words_spec : {M : Type 1} → statement M
+words_spec = tie.close (tie.spec
+    (search rules)
+    (search rules)
+    (search rules)
+    returns)

@@ -8,5 +8,8 @@ returns : tie.Need-returns
 unfolding after_at
 returns c = cc
 
-pub at-spec : {M : Type 1} → statement M
-at-spec = tie.close (tie.spec (search rules) (search rules) returns)
+pub at_spec : {M : Type 1} → statement M
+at_spec = tie.close (tie.spec
+    (search rules)
+    (search rules)
+    returns)

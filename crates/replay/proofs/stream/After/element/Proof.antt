@@ -4,14 +4,19 @@ use Rattle.replay.specs.Lists.{element_after}
 use Rattle.replay.proofs.stream.After.element.Statement.{statement}
 use Rattle.replay.proofs.stream.After.element.Tie as tie
 
-returns : tie.Need-returns
+returns : tie.Need-returns-then-i-self
 unfolding element_after
-returns c = rw (lt-ltb _ _ c.before.before.if1.true) cc
+returns c = rw (lt-ltb _ _ c.before.before.if-i-self.true) cc
 
-returns-2 : tie.Need-returns-2
+returns-2 : tie.Need-returns-else-i-self
 unfolding element_after
-returns-2 c = rw (le-ltb _ _ c.before.if1.false) cc
+returns-2 c = rw (le-ltb _ _ c.before.if-i-self.false) cc
 
-pub element-spec : {M : Type 1} → statement M
-element-spec =
-    tie.close (tie.spec (search rules) (search rules) (search rules) returns returns-2)
+pub element_spec : {M : Type 1} → statement M
+element_spec =
+    tie.close (tie.spec
+    (search rules)
+    (search rules)
+    (search rules)
+    returns
+    returns-2)

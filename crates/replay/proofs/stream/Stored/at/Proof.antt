@@ -8,6 +8,11 @@ returns : tie.Need-returns
 unfolding stored_at
 returns c = cc
 
-pub at-spec : {M : Type 1} → statement M
-at-spec =
-    tie.close (tie.spec (search rules) (search rules) (search rules) (search rules) returns)
+pub at_spec : {M : Type 1} → statement M
+at_spec =
+    tie.close (tie.spec
+    (search rules)
+    (search rules)
+    (search rules)
+    (search rules)
+    returns)

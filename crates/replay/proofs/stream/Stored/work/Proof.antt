@@ -8,5 +8,8 @@ returns : tie.Need-returns
 unfolding work_at
 returns c = cc
 
-pub work-spec : {M : Type 1} → statement M
-work-spec = tie.close (tie.spec (search rules) (search rules) returns)
+pub work_spec : {M : Type 1} → statement M
+work_spec = tie.close (tie.spec
+    (search rules)
+    (search rules)
+    returns)
