@@ -9,7 +9,7 @@ use native.Mathlib.Omega.{arith}
 use lib.Dec.{ltb}
 use lib.Ieee.{Float}
 use lib.ListN.{length}
-use borrow.Author.Tests.{ltb-true, ltb-false, lt-ltb, le-ltb, eqb-true, not_false}
+use borrow.Author.Tests.{ltb-true, ltb-false, lt-ltb, le-ltb, eqb-true, not-false}
 use Rattle.base.specs.Refusals.{refusal}
 use Rattle.base.proofs.Counting.{same_test, neither}
 use Rattle.base.proofs.Refusing.{rows_none}
@@ -41,7 +41,7 @@ unfolding delta_e_rows
 delta_e_room a b room e =
     let p = rows_none _ _ e in
     let q = rows_none _ _ p.1 in
-    (eqb-true (length a) (length b) (not_false _ (neither (ragged a || ragged b) _ q.0).1), ltb-false room (colours a) p.0)
+    (eqb-true (length a) (length b) (not-false _ (neither (ragged a || ragged b) _ q.0).1), ltb-false room (colours a) p.0)
 
 pub matrix_room : (palette : List Float) (room : ℕ) → refusal (matrix_rows palette room) ≡ none →
     (colours palette ≤ 256) × (colours palette * colours palette ≤ room)

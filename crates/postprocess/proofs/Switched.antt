@@ -6,7 +6,7 @@ use mathlib.Core.List.{List}
 use lib.IntN.{ℤ}
 use lib.Ieee.{Float}
 use lib.ListN.{length}
-use borrow.Author.Tests.{not_true, not_false}
+use borrow.Author.Tests.{not-true, not-false}
 use Rattle.rules.specs.declared.PostConfig.{PostConfig}
 use Rattle.rules.specs.declared.Facts.{Facts}
 use Rattle.rules.specs.declared.LineIndex.TheVariants.{Nothing}
@@ -26,11 +26,11 @@ use Rattle.postprocess.proofs.Fronts.{stands_start}
 module _ (kept : Bool) (config : PostConfig) (palette : Palette) where
   pub tones_new : not kept ≡ true → (saturate config.saturation_beta palette).lab ≡ (toned kept config palette).lab
   unfolding toned
-  tones_new y = rw (not_true kept y)
+  tones_new y = rw (not-true kept y)
 
   pub tones_kept : not kept ≡ false → palette.lab ≡ (toned kept config palette).lab
   unfolding toned
-  tones_kept z = rw (not_false kept z)
+  tones_kept z = rw (not-false kept z)
 
 -- ---- cleaning and corners, on the sheet at the front of a lent list: a step that is not made leaves the list
 
@@ -57,7 +57,7 @@ module _ (l : List ℤ) (h w : ℕ) where
     pub cleans : {passes : ℕ} {new : List ℤ} → not on ≡ false → passes ≡ (clean_sheet n palette limits (sheet_of l h w)).passes
         → new ≡ over (clean_sheet n palette limits (sheet_of l h w)).sheet.cells l → Cleaned on passes new
     unfolding clean_sheet_if
-    cleans z e f = rw (not_false on z) (e, f)
+    cleans z e f = rw (not-false on z) (e, f)
 
     pub uncleaned : h * w ≤ length l → on ≡ false → Cleaned on 0 l
     unfolding clean_sheet_if

@@ -7,7 +7,7 @@ use mathlib.Core.List.{List, [], ◌∷◌, ◌++◌}
 use mathlib.Core.Option.{none}
 use native.Mathlib.Nat.{mul-le-mul, min-le_left, min-le_right}
 use native.Mathlib.Omega.{arith}
-use borrow.Author.Tests.{ltb-true, ltb-false, lt-ltb, eqb-true, not_false}
+use borrow.Author.Tests.{ltb-true, ltb-false, lt-ltb, eqb-true, not-false}
 use lib.Dec.{ltb, eqb}
 use lib.ListN.{length}
 use Rattle.base.specs.Refusals.{Row, row, refusal}
@@ -77,7 +77,7 @@ pub good_palette : (palette : Palette) → (bad_palette palette).applies ≡ fal
 unfolding bad_palette
 good_palette palette e =
     let k = neither (ltb 256 palette.count) (not (eqb (length palette.lab) 768)) e in
-    (ltb-false 256 palette.count k.0, eqb-true (length palette.lab) 768 (not_false _ k.1))
+    (ltb-false 256 palette.count k.0, eqb-true (length palette.lab) 768 (not-false _ k.1))
 
 pub palette_room : {palette : Palette} {bad : Bool} (more : List Row) → refusal (palette_rows palette bad ++ more) ≡ none → Usable palette bad × (refusal more ≡ none)
 unfolding bad_colour bad_setting

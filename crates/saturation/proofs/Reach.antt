@@ -6,7 +6,7 @@ use mathlib.Core.Bool.{Bool, true, false, not, ◌&&◌, ◌||◌, cond, false�
 use mathlib.Core.List.{List}
 use native.Mathlib.Nat.{le_refl, le_trans, le_of_eq, mul-le-mul, mul-le-mul_right, mul-mul-mul_comm, mul-one, mul-pos, add_comm}
 use native.Mathlib.Omega.{arith}
-use borrow.Author.Tests.{not_false, ltb-false, lt-ltb}
+use borrow.Author.Tests.{not-false, ltb-false, lt-ltb}
 use lib.Dec.{eqb, ltb}
 use lib.IntN.{ℤ, pos}
 use lib.ListN.{get_or}
@@ -89,7 +89,7 @@ module _ (a j b i : ℕ) (l : a * 2 ^ j ≤ 1024) (N : a * 2 ^ j * (b * 2 ^ i) �
   -- each double is of that size, and so in range
   held : (p : ℕ) → p < 3 * k → Sized (a * 2 ^ j) (get_or lab p nan)
   unfolding all_near
-  held p h = near_sized a j (get_or lab p nan) (not_false _ (any_no (3 * k) _ (not_true all) p h))
+  held p h = near_sized a j (get_or lab p nan) (not-false _ (any_no (3 * k) _ (not_true all) p h))
 
   kept : (p : ℕ) → p < 3 * k → within (get_or lab p nan) ≡ true
   kept p h = sized_within (get_or lab p nan) (wider (a * 2 ^ j) (get_or lab p nan) l (held p h))
@@ -110,6 +110,6 @@ surely beta lab k ranged e =
     let one = near (fin false 1 (pos 0)) beta in
     let four = near (fin false 1 (pos 2)) beta in
     let all = all_near (fin false 1 (pos 8)) (palette_of lab k) in
-    ⊎_elim (in_range_lem 1 10 1 0 (le_refl 1024) (le_refl 1024) lab k (not_false _ (out_of_range_lem (palette_of lab k) ∙ ranged)) beta)
+    ⊎_elim (in_range_lem 1 10 1 0 (le_refl 1024) (le_refl 1024) lab k (not-false _ (out_of_range_lem (palette_of lab k) ∙ ranged)) beta)
     (λ y. in_range_lem 1 8 1 2 (omega arith) (le_refl 1024) lab k (right four all y) beta (left four all y))
     (either one (four && all) e)

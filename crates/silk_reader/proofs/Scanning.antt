@@ -9,7 +9,7 @@ use native.Mathlib.Omega.{arith}
 use lib.Dec.{leb, eqb}
 use lib.ListN.{length, get_or, take, drop, length-drop, drop_of_length-le}
 use lib.Seq.{drop-cons, drop-drop, get_or-drop}
-use borrow.Author.Tests.{le-leb, lt-leb, eq-eqb, ne_eqb, leb-true, leb-false, eqb-true, not_false}
+use borrow.Author.Tests.{le-leb, lt-leb, eq-eqb, ne_eqb, leb-true, leb-false, eqb-true, not-false}
 use Rattle.base.proofs.Counting.{case, left, right, clash}
 use Rattle.silk_reader.specs.Reader.{got, refused, chain, ◌>>=◌, bytes, take_while, span, in_line, is_digit, value, proper, proper_number, number, at_minus, key_line, number_line, ◌>>◌, give, newline}
 use Rattle.silk_reader.specs.Lines.{hex_of, hex_line}
@@ -286,5 +286,5 @@ module _ (text : List ℕ) (at end : ℕ) (e : end ≡ at + length (take_while i
       let n : end - at ≡ length (take_while in_line (drop at text)) = omega arith in
       let p : take (end - at) (drop at text) ≡ take_while in_line (drop at text) = ap (λ (k : ℕ). take k (drop at text)) n ∙ while_take in_line (drop at text) in
       let z : in_line (get_or text end 0) ≡ false = ap in_line (ap (λ (k : ℕ). get_or text k 0) e ∙ sym (get_or-drop at text (length (take_while in_line (drop at text))) 0)) ∙ while_end in_line (drop at text) (omega (arith, length-drop at text)) in
-      let b : get_or text end 0 ≡ 10 = eqb-true (get_or text end 0) 10 (not_false (eqb (get_or text end 0) 10) z) in
+      let b : get_or text end 0 ≡ 10 = eqb-true (get_or text end 0) 10 (not-false (eqb (get_or text end 0) 10) z) in
       rw (line_rest, drop-cons text end 0 h, p, eq-eqb 10 (get_or text end 0) (sym b), add-one end)

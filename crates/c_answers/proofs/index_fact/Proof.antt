@@ -13,15 +13,15 @@ enum-known-index c = search rules
 
 add-result : tie.Need-overflow_add-result
 unfolding index_fact
-add-result c = let p = rw c.before.index-1.given.1 at c.before.before.before.requires in omega arith
+add-result c = let p = rw c.in-Entry.is at c.requires in omega arith
 
 returns : tie.Need-returns-in-Nothing
 unfolding index_fact
-returns c = rw c.enum_told-1.given.1
+returns c = rw c.in-Nothing.is
 
 returns-2 : tie.Need-returns-in-Entry
 unfolding index_fact
-returns-2 c = rw c.before.index-1.given.1
+returns-2 c = rw c.in-Entry.is
 
 pub index_fact_spec : {M : Type 1} → statement M
 index_fact_spec = tie.close (tie.spec

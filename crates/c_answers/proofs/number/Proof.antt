@@ -15,11 +15,11 @@ cast-result c = search rules
 
 returns : tie.Need-returns-in-Done
 unfolding status done
-returns c = rw c.enum_told-1.given.1
+returns c = rw c.in-Done.is
 
 returns-2 : tie.Need-returns-in-Refused
 unfolding status done
-returns-2 c = rw c.before.answer-1.given.1
+returns-2 c = rw c.in-Refused.is
 
 pub number_spec : {M : Type 1} → statement M
 number_spec = tie.close (tie.spec

@@ -28,14 +28,14 @@ slice-write-out-3 c = search rules
 
 returns : tie.Need-returns-in-Refused
 unfolding status received coloured
-returns c = rw c.before.answer-1.given.1 (refl, refl)
+returns c = rw c.in-Refused.is (refl, refl)
 
 same_length : tie.Need-shape_of-out
 same_length c = search rules
 
 returns-2 : tie.Need-returns-in-Colour
 unfolding status coloured
-returns-2 c = rw c.before.answer-in-Colour-1.given.1 (refl, stored_three _ _ _ _ c.before.before.before.requires)
+returns-2 c = rw c.in-Colour.is (refl, stored_three _ _ _ _ c.requires)
 
 pub tell_colour_spec : {M : Type 1} → statement M
 tell_colour_spec =

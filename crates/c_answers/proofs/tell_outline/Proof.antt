@@ -16,12 +16,11 @@ enum-known-answer-2 c = search rules
 
 put-facts-requires : tie.Need-put_facts-requires
 put-facts-requires c κs =
-    let s = c.before.before.before.before.before in
-    (s.requires.0 _ c.before.before.answer-in-Drawn-1.given.1, s.requires.1)
+    (c.requires.0 _ c.in-Drawn.is, c.requires.1)
 
 returns : tie.Need-returns-in-Refused
 unfolding status received outlined
-returns c = rw c.before.answer-1.given.1 (refl, refl)
+returns c = rw c.in-Refused.is (refl, refl)
 
 same_length : tie.Need-shape_of-facts
 same_length c = search rules
@@ -29,8 +28,7 @@ same_length c = search rules
 returns-2 : tie.Need-returns-in-Drawn
 unfolding status outlined
 returns-2 c =
-    let p = c.before.before in
-    rw p.before.before.before.answer-in-Drawn-1.given.1 (refl, p.put_facts.ensures)
+    rw c.in-Drawn.is (refl, c.put_facts.ensures)
 
 pub tell_outline_spec : {M : Type 1} → statement M
 tell_outline_spec =

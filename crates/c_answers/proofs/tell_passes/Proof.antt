@@ -20,14 +20,14 @@ slice-write-facts c = search rules
 
 returns : tie.Need-returns-in-Refused
 unfolding status received cleaned
-returns c = rw c.before.answer-1.given.1 (refl, refl)
+returns c = rw c.in-Refused.is (refl, refl)
 
 same_length : tie.Need-shape_of-facts
 same_length c = search rules
 
 returns-2 : tie.Need-returns-in-Passes
 unfolding status cleaned
-returns-2 c = rw c.before.answer-in-Passes-1.given.1 (refl, stored_one _ _ c.before.before.before.requires)
+returns-2 c = rw c.in-Passes.is (refl, stored_one _ _ c.requires)
 
 pub tell_passes_spec : {M : Type 1} → statement M
 tell_passes_spec =

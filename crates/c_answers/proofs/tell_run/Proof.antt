@@ -18,8 +18,7 @@ enum-known-answer-2 c = search rules
 
 put-facts-requires : tie.Need-put_facts-requires
 put-facts-requires c κs =
-    let s = c.before.before.before.before.before in
-    (s.requires.0 _ _ _ c.before.before.answer-in-Processed-1.given.1, omega (arith, s.requires.1))
+    (c.requires.0 _ _ _ c.in-Processed.is, omega (arith, c.requires.1))
 
 slice-write-facts : tie.Need-bounds-facts-5
 slice-write-facts c = search rules
@@ -29,7 +28,7 @@ slice-write-facts-2 c = search rules
 
 returns : tie.Need-returns-in-Refused
 unfolding status received processed
-returns c = rw c.before.answer-1.given.1 (refl, refl)
+returns c = rw c.in-Refused.is (refl, refl)
 
 same_length : tie.Need-shape_of-facts
 same_length c = search rules
@@ -37,10 +36,7 @@ same_length c = search rules
 returns-2 : tie.Need-returns-in-Processed
 unfolding status processed facts_list
 returns-2 c =
-    let p = c.before.before in
-    let a = p.before.before.before in
-    let s = a.before.before.before in
-    rw a.answer-in-Processed-1.given.1 (refl, rw p.put_facts.ensures (stored_seven _ _ _ _ _ _ _ _ s.requires.1))
+    rw c.in-Processed.is (refl, rw c.put_facts.ensures (stored_seven _ _ _ _ _ _ _ _ c.requires.1))
 
 pub tell_run_spec : {M : Type 1} → statement M
 tell_run_spec =

@@ -31,7 +31,7 @@ shared-slice-read-if1 : tie.Need-bounds-table-n invariant-loop decreases-loop
 shared-slice-read-if1 c = omega arith
 
 float-from-bits-if1 : tie.Need-float_from_bits-table invariant-loop decreases-loop
-float-from-bits-if1 c = let d = c.before.before in no_nan_bits _ (d.before.requires.fits (d.loop-gap.n + d.loop-gap.gap / 2 - 1) (omega arith))
+float-from-bits-if1 c = no_nan_bits _ (c.requires.fits (c.loop-gap.n + c.loop-gap.gap / 2 - 1) (omega arith))
 
 add-n : tie.Need-overflow_add-n-then-table-n invariant-loop decreases-loop
 add-n c = search rules
@@ -44,21 +44,20 @@ loop-less c = omega arith
 
 loop-again : tie.Need-loop-gap-preserved invariant-loop decreases-loop
 loop-again c =
-    let f = c.before.before.before in
-    let d = f.loop-gap in
-    let x = f.before.args.c in
-    let m : 1 < d.gap = c.before.before.loop-gap-test.true in
-    let e = passes_by f.before.requires x (d.n + d.gap / 2 - 1) (omega arith) in
+    let d = c.loop-gap in
+    let x = c.args.c in
+    let m : 1 < d.gap = c.loop-gap-test.true in
+    let e = passes_by c.requires x (d.n + d.gap / 2 - 1) (omega arith) in
     ⊎_elim
-    (λ w. subst (λ (n : ℕ). Sought x n (d.gap - d.gap / 2)) (sym w.1) (sought_hit x d.n d.gap d.invariant m (e ∙ w.0.taken)))
-    (λ w. subst (λ (n : ℕ). Sought x n (d.gap - d.gap / 2)) (sym w.1) (sought_miss x d.n d.gap d.invariant m (e ∙ w.0.left)))
+    (λ w. subst (λ (n : ℕ). Sought x n (d.gap - d.gap / 2)) (sym w.n-is) (sought_hit x d.n d.gap d.invariant m (e ∙ w.if-table-n.true)))
+    (λ w. subst (λ (n : ℕ). Sought x n (d.gap - d.gap / 2)) (sym w.n-is) (sought_miss x d.n d.gap d.invariant m (e ∙ w.if-table-n.false)))
     c.if-table-n.branch-raw
 
 cast-result : tie.Need-overflow_cast-result invariant-loop decreases-loop
 cast-result c = omega arith
 
 returns : tie.Need-returns invariant-loop decreases-loop
-returns c = sought_end _ _ _ c.before.loop-gap.invariant (search rules)
+returns c = sought_end _ _ _ c.loop-gap.invariant (search rules)
 
 pub byte_spec : {M : Type 1} → statement M
 byte_spec =

@@ -12,11 +12,8 @@ delta-e-answer-requires c κs = tt
 enum_told : tie.Need-enum_told-1
 enum_told c = search rules
 
-abbrev entered : tie.After-fill_delta_e-arg-1 → tie.In-Done
-entered c = c.before
-
 fill-delta-e-requires : tie.Need-fill_delta_e-requires
-fill-delta-e-requires c κs = let t = entered c in delta_e_room _ _ _ (filling_none t.before.before.delta_e_answer-answer.ensures t.enum_told-1.given.1)
+fill-delta-e-requires c κs = delta_e_room _ _ _ (filling_none c.delta_e_answer-answer.ensures c.in-Done.is)
 
 enum-told-2 : tie.Need-enum_told-in_default
 enum-told-2 c = search rules
@@ -26,11 +23,11 @@ same_length c = search rules
 
 returns : tie.Need-returns-in-Done
 unfolding written delta_e_out
-returns c = let t = entered c.before.before.before in (cc, none_unless _ _ (filling_none t.before.before.delta_e_answer-answer.ensures t.enum_told-1.given.1) c.before.before.fill_delta_e.ensures)
+returns c = (cc, none_unless _ _ (filling_none c.delta_e_answer-answer.ensures c.in-Done.is) c.fill_delta_e.ensures)
 
 returns-2 : tie.Need-returns-in_default
 unfolding written delta_e_out
-returns-2 c = (cc, some_unless _ _ (filling_some c.before.before.delta_e_answer-answer.ensures c.enum_told-in_default-1.given.1))
+returns-2 c = (cc, some_unless _ _ (filling_some c.delta_e_answer-answer.ensures c.in_default.is))
 
 pub delta_e_spec : {M : Type 1} → statement M
 delta_e_spec = tie.close (tie.spec

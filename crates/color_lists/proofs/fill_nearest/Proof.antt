@@ -16,22 +16,19 @@ decreases-loop pixels palette out₀ n i₀ out i = n - i
 
 loop-holds : tie.Need-loop-i-init invariant-loop decreases-loop
 unfolding colours
-loop-holds c = written_none _ _ _ c.before.before.requires.1
+loop-holds c = written_none _ _ _ c.requires.1
 
 entry-requires : tie.Need-entry-requires invariant-loop decreases-loop
 entry-requires c κs = omega arith
 
-abbrev start : tie.In-loop-i invariant-loop decreases-loop → tie.Start invariant-loop decreases-loop
-start c = c.before.before.before.before
-
 nearest-requires : tie.Need-nearest-requires invariant-loop decreases-loop
-nearest-requires c κs = (start c.before).requires.0
+nearest-requires c κs = c.requires.0
 
 mul-t10 : tie.Need-offset_bounds-out-i invariant-loop decreases-loop
-mul-t10 c = let e = written-length c.before.before.before.loop-i.invariant in omega arith
+mul-t10 c = let e = written-length c.loop-i.invariant in omega arith
 
 slice-set-from-out : tie.Need-bounds-out-i invariant-loop decreases-loop
-slice-set-from-out c = let e = written-length c.before.before.before.loop-i.invariant in omega arith
+slice-set-from-out c = let e = written-length c.loop-i.invariant in omega arith
 
 add-i : tie.Need-overflow_add-i invariant-loop decreases-loop
 add-i c = omega arith
@@ -41,14 +38,14 @@ loop-less c = omega arith
 
 loop-again : tie.Need-loop-i-preserved invariant-loop decreases-loop
 unfolding nearest_at
-loop-again c = written-more c.before.before.before.loop-i.invariant c.before.before.loop-i-test.true _ (let r = to_z-of_z w32 c.nearest.result (record { sfits = c.nearest.type-inv }) in cc)
+loop-again c = written-more c.loop-i.invariant c.loop-i-test.true _ (let r = to_z-of_z w32 c.nearest.result (record { sfits = c.nearest.type_inv }) in cc)
 
 same_length : tie.Need-shape_of-out invariant-loop decreases-loop
-same_length c = written-length c.before.loop-i.invariant
+same_length c = written-length c.loop-i.invariant
 
 returns : tie.Need-returns invariant-loop decreases-loop
 unfolding colours
-returns c = written_all c.before.loop-i.invariant c.loop-i-test.false
+returns c = written_all c.loop-i.invariant c.loop-i-test.false
 
 pub fill_nearest_spec : {M : Type 1} → statement M
 fill_nearest_spec = tie.close (tie.spec

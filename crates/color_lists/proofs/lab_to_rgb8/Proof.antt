@@ -18,11 +18,8 @@ threshold-table-requires c κs = tt
 slice-aggregate-fill-rgb8 : tie.Need-slice_bounds-fill_rgb8-end
 slice-aggregate-fill-rgb8 c = search rules
 
-abbrev entered : tie.After-fill_rgb8-arg-1 → tie.In-Done
-entered c = c.before.before.before
-
 fill-rgb8-requires : tie.Need-fill_rgb8-requires
-fill-rgb8-requires c κs = let t = entered c in (c.before.before.threshold_table-table.ensures, lab-to_rgb8_room _ _ (filling_none t.before.before.lab_to_rgb8_answer-answer.ensures t.enum_told-1.given.1))
+fill-rgb8-requires c κs = (c.threshold_table-table.ensures, lab-to_rgb8_room _ _ (filling_none c.lab_to_rgb8_answer-answer.ensures c.in-Done.is))
 
 enum-told-2 : tie.Need-enum_told-in_default
 enum-told-2 c = search rules
@@ -32,11 +29,11 @@ same_length c = search rules
 
 returns : tie.Need-returns-in-Done
 unfolding written lab_to_rgb8_out
-returns c = let t = entered c.before.before.before in (cc, none_unless _ _ (filling_none t.before.before.lab_to_rgb8_answer-answer.ensures t.enum_told-1.given.1) c.before.before.fill_rgb8.ensures)
+returns c = (cc, none_unless _ _ (filling_none c.lab_to_rgb8_answer-answer.ensures c.in-Done.is) c.fill_rgb8.ensures)
 
 returns-2 : tie.Need-returns-in_default
 unfolding written lab_to_rgb8_out
-returns-2 c = (cc, some_unless _ _ (filling_some c.before.before.lab_to_rgb8_answer-answer.ensures c.enum_told-in_default-1.given.1))
+returns-2 c = (cc, some_unless _ _ (filling_some c.lab_to_rgb8_answer-answer.ensures c.in_default.is))
 
 pub lab_to_rgb8_spec : {M : Type 1} → statement M
 lab_to_rgb8_spec = tie.close (tie.spec

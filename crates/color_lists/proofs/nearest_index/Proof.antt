@@ -12,11 +12,8 @@ nearest-answer-requires c κs = tt
 enum_told : tie.Need-enum_told-1
 enum_told c = search rules
 
-abbrev entered : tie.After-fill_nearest-arg-1 → tie.In-Done
-entered c = c.before
-
 fill-nearest-requires : tie.Need-fill_nearest-requires
-fill-nearest-requires c κs = let t = entered c in nearest_room _ _ _ (filling_none t.before.before.nearest_answer-answer.ensures t.enum_told-1.given.1)
+fill-nearest-requires c κs = nearest_room _ _ _ (filling_none c.nearest_answer-answer.ensures c.in-Done.is)
 
 enum-told-2 : tie.Need-enum_told-in_default
 enum-told-2 c = search rules
@@ -26,11 +23,11 @@ same_length c = search rules
 
 returns : tie.Need-returns-in-Done
 unfolding written nearest_out
-returns c = let t = entered c.before.before in (cc, none_unless _ _ (filling_none t.before.before.nearest_answer-answer.ensures t.enum_told-1.given.1) c.before.fill_nearest.ensures)
+returns c = (cc, none_unless _ _ (filling_none c.nearest_answer-answer.ensures c.in-Done.is) c.fill_nearest.ensures)
 
 returns-2 : tie.Need-returns-in_default
 unfolding written nearest_out
-returns-2 c = (cc, some_unless _ _ (filling_some c.before.before.nearest_answer-answer.ensures c.enum_told-in_default-1.given.1))
+returns-2 c = (cc, some_unless _ _ (filling_some c.nearest_answer-answer.ensures c.in_default.is))
 
 pub nearest_index_spec : {M : Type 1} → statement M
 nearest_index_spec = tie.close (tie.spec

@@ -12,11 +12,8 @@ matrix-answer-requires c κs = tt
 enum_told : tie.Need-enum_told-1
 enum_told c = search rules
 
-abbrev entered : tie.After-fill_matrix-arg-1 → tie.In-Done
-entered c = c.before
-
 fill-matrix-requires : tie.Need-fill_matrix-requires
-fill-matrix-requires c κs = let t = entered c in matrix_room _ _ (filling_none t.before.before.matrix_answer-answer.ensures t.enum_told-1.given.1)
+fill-matrix-requires c κs = matrix_room _ _ (filling_none c.matrix_answer-answer.ensures c.in-Done.is)
 
 enum-told-2 : tie.Need-enum_told-in_default
 enum-told-2 c = search rules
@@ -26,11 +23,11 @@ same_length c = search rules
 
 returns : tie.Need-returns-in-Done
 unfolding written matrix_out
-returns c = let t = entered c.before.before.before in (cc, none_unless _ _ (filling_none t.before.before.matrix_answer-answer.ensures t.enum_told-1.given.1) c.before.before.fill_matrix.ensures)
+returns c = (cc, none_unless _ _ (filling_none c.matrix_answer-answer.ensures c.in-Done.is) c.fill_matrix.ensures)
 
 returns-2 : tie.Need-returns-in_default
 unfolding written matrix_out
-returns-2 c = (cc, some_unless _ _ (filling_some c.before.before.matrix_answer-answer.ensures c.enum_told-in_default-1.given.1))
+returns-2 c = (cc, some_unless _ _ (filling_some c.matrix_answer-answer.ensures c.in_default.is))
 
 pub palette_distance_matrix_spec : {M : Type 1} → statement M
 palette_distance_matrix_spec = tie.close (tie.spec

@@ -18,11 +18,8 @@ decode-table-requires c κs = tt
 slice-aggregate-fill-lab : tie.Need-slice_bounds-fill_lab-end
 slice-aggregate-fill-lab c = search rules
 
-abbrev entered : tie.After-fill_lab-arg-1 → tie.In-Done
-entered c = c.before.before.before
-
 fill-lab-requires : tie.Need-fill_lab-requires
-fill-lab-requires c κs = let t = entered c in (c.before.before.decode_table-table.ensures, rgb8_to-lab_room _ _ (filling_none t.before.before.rgb8_to_lab_answer-answer.ensures t.enum_told-1.given.1))
+fill-lab-requires c κs = (c.decode_table-table.ensures, rgb8_to-lab_room _ _ (filling_none c.rgb8_to_lab_answer-answer.ensures c.in-Done.is))
 
 enum-told-2 : tie.Need-enum_told-in_default
 enum-told-2 c = search rules
@@ -32,11 +29,11 @@ same_length c = search rules
 
 returns : tie.Need-returns-in-Done
 unfolding written rgb8_to_lab_out
-returns c = let t = entered c.before.before.before in (cc, none_unless _ _ (filling_none t.before.before.rgb8_to_lab_answer-answer.ensures t.enum_told-1.given.1) c.before.before.fill_lab.ensures)
+returns c = (cc, none_unless _ _ (filling_none c.rgb8_to_lab_answer-answer.ensures c.in-Done.is) c.fill_lab.ensures)
 
 returns-2 : tie.Need-returns-in_default
 unfolding written rgb8_to_lab_out
-returns-2 c = (cc, some_unless _ _ (filling_some c.before.before.rgb8_to_lab_answer-answer.ensures c.enum_told-in_default-1.given.1))
+returns-2 c = (cc, some_unless _ _ (filling_some c.rgb8_to_lab_answer-answer.ensures c.in_default.is))
 
 pub rgb8_to_lab_spec : {M : Type 1} → statement M
 rgb8_to_lab_spec = tie.close (tie.spec

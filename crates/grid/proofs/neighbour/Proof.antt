@@ -13,7 +13,7 @@ use Rattle.grid.proofs.neighbour.Statement.{statement}
 use Rattle.grid.proofs.neighbour.Tie as tie
 
 along-requires : tie.Need-along-requires
-along-requires c κs = let s = c in (s.requires.0.0, s.requires.0.2, rw (to_z-of_z s.ranges.dy) s.requires.1.0, rw (to_z-of_z s.ranges.dy) s.requires.1.1)
+along-requires c κs = (c.requires.0.0, c.requires.0.2, rw (to_z-of_z c.ranges.dy) c.requires.1.0, rw (to_z-of_z c.ranges.dy) c.requires.1.1)
 
 enum-known-row : tie.Need-enum_known-row
 enum-known-row c = search rules
@@ -22,24 +22,20 @@ enum_told : tie.Need-enum_told-1
 enum_told c = search rules
 
 -- the step along the rows
-row_step : (c : tie.After-along) → c.along.result ≡ step_of (on_side c.before.args.h (pos c.before.args.y +ℤ c.before.args.dy))
-row_step c = rw (to_z-of_z c.before.ranges.dy) at c.along.ensures
+row_step : (c : tie.After-along) → c.along.result ≡ step_of (on_side c.args.h (pos c.args.y +ℤ c.args.dy))
+row_step c = rw (to_z-of_z c.ranges.dy) at c.along.ensures
 
 returns : tie.Need-returns-in_default
 returns c =
-    let a = c.before.before in
-    let x = a.before.args in
-    off-row x.h x.w x.y x.x x.dy x.dx (step_off (sym (row_step a) ∙ c.enum_told-1.given.1))
-
-abbrev start : tie.In-Cell → tie.Start
-start c = c.before.before.before.before
+    let x = c.args in
+    off-row x.h x.w x.y x.x x.dy x.dx (step_off (sym (row_step c.before) ∙ c.in_default.is))
 
 -- the row that it found
-row_is : (c : tie.In-Cell) → on_side (start c).args.h (pos (start c).args.y +ℤ (start c).args.dy) ≡ some c.before.row-1.given.0.0
-row_is c = step_cell (sym (row_step c.before.before.before) ∙ c.before.row-1.given.1)
+row_is : (c : tie.In-Cell) → on_side c.args.h (pos c.args.y +ℤ c.args.dy) ≡ some c.in-Cell.row
+row_is c = step_cell (sym (row_step c.before) ∙ c.in-Cell.is)
 
 along-requires-2 : tie.Need-along-requires-2
-along-requires-2 c κs = let s = start c in (s.requires.0.1, s.requires.0.3, rw (to_z-of_z s.ranges.dx) s.requires.1.2, rw (to_z-of_z s.ranges.dx) s.requires.1.3)
+along-requires-2 c κs = (c.requires.0.1, c.requires.0.3, rw (to_z-of_z c.ranges.dx) c.requires.1.2, rw (to_z-of_z c.ranges.dx) c.requires.1.3)
 
 enum-known-col : tie.Need-enum_known-col
 enum-known-col c = search rules
@@ -48,29 +44,24 @@ enum-told-2 : tie.Need-enum_told-in_default-along
 enum-told-2 c = search rules
 
 -- the step along the columns
-col_step : (c : tie.After-along-2) → c.along-2.result ≡ step_of (on_side (start c.before).args.w (pos (start c.before).args.x +ℤ (start c.before).args.dx))
-col_step c = rw (to_z-of_z (start c.before).ranges.dx) at c.along-2.ensures
+col_step : (c : tie.After-along-2) → c.along-2.result ≡ step_of (on_side c.args.w (pos c.args.x +ℤ c.args.dx))
+col_step c = rw (to_z-of_z c.ranges.dx) at c.along-2.ensures
 
 returns-2 : tie.Need-returns-in_default-along
 returns-2 c =
-    let a = c.before.before in
-    let x = (start a.before).args in
-    off-col x.h x.w x.y x.x x.dy x.dx a.before.before.row-1.given.0.0 (row_is a.before) (step_off (sym (col_step a) ∙ c.enum_told-in_default-along-1.given.1))
-
-abbrev rows : tie.In-Cell-along → tie.In-Cell
-rows c = c.before.before.before.before
+    let x = c.args in
+    off-col x.h x.w x.y x.x x.dy x.dx c.in-Cell.row (row_is c.before.before) (step_off (sym (col_step c.before) ∙ c.in_default-along.is))
 
 -- the column that it found
-col-is : (c : tie.In-Cell-along) → on_side (start (rows c)).args.w (pos (start (rows c)).args.x +ℤ (start (rows c)).args.dx) ≡ some c.before.col-1.given.0.0
-col-is c = step_cell (sym (col_step c.before.before.before) ∙ c.before.col-1.given.1)
+col-is : (c : tie.In-Cell-along) → on_side c.args.w (pos c.args.x +ℤ c.args.dx) ≡ some c.in-Cell-along.col
+col-is c = step_cell (sym (col_step c.before) ∙ c.in-Cell-along.is)
 
 -- the place that both found is on the grid
-spot : (c : tie.In-Cell-along) → (rows c).before.row-1.given.0.0 * (start (rows c)).args.w + c.before.col-1.given.0.0 < 264196
+spot : (c : tie.In-Cell-along) → c.in-Cell.row * c.args.w + c.in-Cell-along.col < 264196
 spot c =
-    let s = start (rows c) in
-    let y = (side_sound s.args.h s.args.y _ s.args.dy (row_is (rows c))).0 in
-    let x = (side_sound s.args.w s.args.x _ s.args.dx (col-is c)).0 in
-    omega (arith, place_in_lem _ _ _ _ y x, area _ _ s.requires.0.2 s.requires.0.3)
+    let y = (side_sound c.args.h c.args.y _ c.args.dy (row_is c.before.before)).0 in
+    let x = (side_sound c.args.w c.args.x _ c.args.dx (col-is c)).0 in
+    omega (arith, place_in_lem _ _ _ _ y x, area _ _ c.requires.0.2 c.requires.0.3)
 
 mul-first : tie.Need-overflow_mul-first
 mul-first c = omega (arith, spot c)
@@ -80,8 +71,8 @@ add-t12 c = omega (arith, spot c)
 
 returns-3 : tie.Need-returns
 returns-3 c =
-    let x = (start (rows c)).args in
-    on_both x.h x.w x.y x.x x.dy x.dx (rows c).before.row-1.given.0.0 c.before.col-1.given.0.0 (row_is (rows c)) (col-is c)
+    let x = c.args in
+    on_both x.h x.w x.y x.x x.dy x.dx c.in-Cell.row c.in-Cell-along.col (row_is c.before.before) (col-is c)
 
 pub neighbour_spec : {M : Type 1} → statement M
 neighbour_spec =

@@ -2,13 +2,13 @@
 use mathlib.Core.Path.{◌≡◌, sym, ◌∙◌}
 use mathlib.Core.Bool.{true, false}
 use native.Mathlib.Omega.{arith}
-use borrow.Author.Tests.{eq-eqb, ne_eqb, not_true, not_false}
+use borrow.Author.Tests.{eq-eqb, ne_eqb, not-true, not-false}
 use Rattle.hex_colour.specs.Hex.{all_digits, six_digits}
 use Rattle.hex_colour.proofs.six_digits.Statement.{statement}
 use Rattle.hex_colour.proofs.six_digits.Tie as tie
 
-digits : (c : tie.Else-not-all_digits) → all_digits c.before.before.before.before.args.text.now ≡ true
-digits c = sym c.before.all_digits.ensures ∙ not_false _ c.if-not-all_digits.false
+digits : (c : tie.Else-not-all_digits) → all_digits c.args.text.now ≡ true
+digits c = sym c.all_digits.ensures ∙ not-false _ c.if-not-all_digits.false
 
 returns : tie.Need-returns-then-text-ne6
 unfolding six_digits
@@ -20,8 +20,8 @@ all-digits-requires c κs = tt
 returns-2 : tie.Need-returns-then-not-all_digits
 unfolding six_digits
 returns-2 c =
-    let n : all_digits c.before.before.before.before.args.text.now ≡ false = sym c.before.all_digits.ensures ∙ not_true _ c.if-not-all_digits.true in
-    rw (eq-eqb _ 6 c.before.before.if-text-ne6.false, n)
+    let n : all_digits c.args.text.now ≡ false = sym c.all_digits.ensures ∙ not-true _ c.if-not-all_digits.true in
+    rw (eq-eqb _ 6 c.if-text-ne6.false, n)
 
 pair-requires : tie.Need-pair-requires
 pair-requires c κs = (digits c, omega arith)
@@ -35,11 +35,10 @@ pair-requires-3 c κs = (digits c.before.before, omega arith)
 returns-3 : tie.Need-returns
 unfolding six_digits
 returns-3 c =
-    let d = c.before.before.before in
-    let p = c.before.before.pair.ensures in
-    let q = c.before.pair-2.ensures in
+    let p = c.pair.ensures in
+    let q = c.pair-2.ensures in
     let s = c.pair-3.ensures in
-    rw (eq-eqb _ 6 d.before.before.if-text-ne6.false, digits d) cc
+    rw (eq-eqb _ 6 c.if-text-ne6.false, digits c.before.before.before) cc
 
 pub six_digits_spec : {M : Type 1} → statement M
 six_digits_spec = tie.close (tie.spec

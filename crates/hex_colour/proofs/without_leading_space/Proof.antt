@@ -31,7 +31,7 @@ loop-less : tie.Need-loop-i-smaller invariant-loop decreases-loop
 loop-less c = omega arith
 
 loop-again : tie.Need-loop-i-preserved invariant-loop decreases-loop
-loop-again c = skipped_more c.before.before.before.before.loop-i.invariant c.before.before.before.loop-i-test.true (sym c.before.is_space.ensures ∙ c.if-is_space.true)
+loop-again c = skipped_more c.loop-i.invariant c.loop-i-test.true (sym c.is_space.ensures ∙ c.if-is_space.true)
 
 sub-result : tie.Need-slice_bounds-result-count invariant-loop decreases-loop
 sub-result c = omega arith
@@ -44,8 +44,8 @@ part-result-end c = omega arith
 
 returns : tie.Need-returns invariant-loop decreases-loop
 returns c =
-    let s = c.before.before.loop-i.invariant in
-    ⊎_elim (λ w. skipped_to s w.0.taken (sym w.2.ensures ∙ w.3.left)) (λ w. skipped_all s w.left) c.before.loop-i-test.branch-raw
+    let s = c.loop-i.invariant in
+    ⊎_elim (λ w. skipped_to s w.loop-i-test.true (sym w.is_space.ensures ∙ w.if-is_space.false)) (λ w. skipped_all s w.loop-i-test.false) c.loop-i-test.branch-raw
 
 pub without_leading_space_spec : {M : Type 1} → statement M
 without_leading_space_spec = tie.close (tie.spec

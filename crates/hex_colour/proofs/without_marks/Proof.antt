@@ -28,7 +28,7 @@ loop-less c = omega arith
 
 loop-again : tie.Need-loop-i-preserved invariant-loop decreases-loop
 unfolding mark
-loop-again c = skipped_more c.before.before.before.loop-i.invariant c.before.before.loop-i-test.true c.if-text-i-eq35.true
+loop-again c = skipped_more c.loop-i.invariant c.loop-i-test.true c.if-text-i-eq35.true
 
 sub-result : tie.Need-slice_bounds-result-count invariant-loop decreases-loop
 sub-result c = omega arith
@@ -42,8 +42,8 @@ part-result-end c = omega arith
 returns : tie.Need-returns invariant-loop decreases-loop
 unfolding mark
 returns c =
-    let s = c.before.before.loop-i.invariant in
-    ⊎_elim (λ w. skipped_to s w.0.taken w.2.left) (λ w. skipped_all s w.left) c.before.loop-i-test.branch-raw
+    let s = c.loop-i.invariant in
+    ⊎_elim (λ w. skipped_to s w.loop-i-test.true w.if-text-i-eq35.false) (λ w. skipped_all s w.loop-i-test.false) c.loop-i-test.branch-raw
 
 pub without_marks_spec : {M : Type 1} → statement M
 without_marks_spec = tie.close (tie.spec

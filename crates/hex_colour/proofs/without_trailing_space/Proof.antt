@@ -33,15 +33,15 @@ loop-less : tie.Need-loop-end-smaller invariant-loop decreases-loop
 loop-less c = omega arith
 
 loop-again : tie.Need-loop-end-preserved invariant-loop decreases-loop
-loop-again c = stripped-more c.before.before.before.before.loop-end.invariant c.before.before.before.loop-end-test.true (sym c.before.is_space.ensures ∙ c.if-is_space.true)
+loop-again c = stripped-more c.loop-end.invariant c.loop-end-test.true (sym c.is_space.ensures ∙ c.if-is_space.true)
 
 slice-aggregate-result : tie.Need-slice_bounds-result-end invariant-loop decreases-loop
-slice-aggregate-result c = sym (length-take-le _ _ c.before.before.loop-end.invariant.inside)
+slice-aggregate-result c = sym (length-take-le _ _ c.loop-end.invariant.inside)
 
 returns : tie.Need-returns invariant-loop decreases-loop
 returns c =
-    let s = c.before.before.loop-end.invariant in
-    ⊎_elim (λ w. stripped-to s w.0.taken (sym w.2.ensures ∙ w.3.left)) (λ w. stripped_all s w.left) c.before.loop-end-test.branch-raw
+    let s = c.loop-end.invariant in
+    ⊎_elim (λ w. stripped-to s w.loop-end-test.true (sym w.is_space.ensures ∙ w.if-is_space.false)) (λ w. stripped_all s w.loop-end-test.false) c.loop-end-test.branch-raw
 
 pub without_trailing_space_spec : {M : Type 1} → statement M
 without_trailing_space_spec = tie.close (tie.spec

@@ -20,18 +20,15 @@ enum-known-row c = search rules
 returns : tie.Need-returns-in-Refused
 unfolding jaggies_refusal jaggies_answer jaggies_cells needed
 returns c =
-    let e = filling_some c.before.before.before.sheet_refusal.ensures c.before.row-1.given.1 in
+    let e = filling_some c.sheet_refusal.ensures c.in-Refused.is in
     (some_filling e, some_unless _ _ e)
 
 enum_told : tie.Need-enum_told-1
 enum_told c = search rules
 
-abbrev start : tie.After-sheet_refusal → tie.Start
-start c = c.before.before
-
-fit : (c : tie.In_default) → let a = (start c.before.before).args in Room a.h a.w (a.h * a.w) (length a.cells-1.now) (length a.work-1.now)
+fit : (c : tie.In_default) → let a = c.args in Room a.h a.w (a.h * a.w) (length a.cells.now) (length a.work.now)
 unfolding needed
-fit c = (sheet_room [] (filling_none c.before.before.sheet_refusal.ensures c.enum_told-1.given.1)).0
+fit c = (sheet_room [] (filling_none c.sheet_refusal.ensures c.in_default.is)).0
 
 trim-sheet-requires : tie.Need-trim_sheet-requires
 trim-sheet-requires c κs = let r = fit c.before.before in (r.high, r.wide, r.held, r.free)
@@ -45,10 +42,8 @@ same-length-2 c = search rules
 returns-2 : tie.Need-returns
 unfolding jaggies_refusal jaggies_answer jaggies_cells needed
 returns-2 c =
-    let called = c.before.before.before in
-    let past = called.before.before.before in
-    let e = filling_none past.before.before.sheet_refusal.ensures past.enum_told-1.given.1 in
-    (none_filling e, none_unless _ _ e called.trim_sheet.ensures)
+    let e = filling_none c.sheet_refusal.ensures c.in_default.is in
+    (none_filling e, none_unless _ _ e c.trim_sheet.ensures)
 
 pub fix_jaggies_spec : {M : Type 1} → statement M
 fix_jaggies_spec =

@@ -14,10 +14,9 @@ use Rattle.jaggies.proofs.look.Tie as tie
 
 neighbour-requires : tie.Need-neighbour-requires
 neighbour-requires c κs =
-    let s = c.before in
-    let dy = s.requires.1 in
-    let dx = s.requires.2 in
-    (omega arith, (rw (to_z-of_z s.ranges.dy) dy.low, rw (to_z-of_z s.ranges.dy) dy.high, rw (to_z-of_z s.ranges.dx) dx.low, rw (to_z-of_z s.ranges.dx) dx.high))
+    let dy = c.requires.1 in
+    let dx = c.requires.2 in
+    (omega arith, (rw (to_z-of_z c.ranges.dy) dy.low, rw (to_z-of_z c.ranges.dy) dy.high, rw (to_z-of_z c.ranges.dx) dx.low, rw (to_z-of_z c.ranges.dx) dx.high))
 
 enum-known-q : tie.Need-enum_known-q
 enum-known-q c = search rules
@@ -27,32 +26,26 @@ enum_told c = search rules
 
 -- the step
 step : (c : tie.After-neighbour) →
-    let a = c.before.before.args in c.neighbour.result ≡ step_of (step_to a.at.h a.at.w a.at.y a.at.x a.dy a.dx)
-step c = let s = c.before.before in rw (to_z-of_z s.ranges.dy, to_z-of_z s.ranges.dx) at c.neighbour.ensures
+    let a = c.args in c.neighbour.result ≡ step_of (step_to a.at.h a.at.w a.at.y a.at.x a.dy a.dx)
+step c = rw (to_z-of_z c.ranges.dy, to_z-of_z c.ranges.dx) at c.neighbour.ensures
 
 returns : tie.Need-returns-in_default
 returns c =
-    let n = c.before.before in
-    let s = n.before.before in
-    (λ old shown. look-off old _ _ _ _ s.requires.0.col _ _ (step_off (sym (step n) ∙ c.enum_told-1.given.1)), omega arith)
-
-abbrev start : tie.In-Cell → tie.Start
-start c = c.before.before.before.before.before
+    (λ old shown. look-off old _ _ _ _ c.requires.0.col _ _ (step_off (sym (step c.before) ∙ c.in_default.is)), omega arith)
 
 -- where it leads
 leads : (c : tie.In-Cell) →
-    let a = (start c).args in step_to a.at.h a.at.w a.at.y a.at.x a.dy a.dx ≡ some c.before.q-1.given.0.0
-leads c = step_cell (sym (step c.before.before.before) ∙ c.before.q-1.given.1)
+    let a = c.args in step_to a.at.h a.at.w a.at.y a.at.x a.dy a.dx ≡ some c.in-Cell.q
+leads c = step_cell (sym (step c.before) ∙ c.in-Cell.is)
 
 -- the end of the row is on the sheet, and the place in reach
 bounds : (c : tie.In-Cell) →
-    let a = (start c).args in
-    let q = c.before.q-1.given.0.0 in
+    let a = c.args in
+    let q = c.in-Cell.q in
     (a.at.y * a.at.w + a.at.x < a.at.h * a.at.w) × (a.at.h * a.at.w ≤ 264196) × (q < a.at.h * a.at.w) × (a.at.y * a.at.w + a.at.w ≤ q + 3 * a.at.w)
 bounds c =
-    let s = start c in
-    let r = in_reach _ _ _ _ _ s.args.dy s.args.dx s.requires.1 (leads c) in
-    (place_in_lem _ _ _ _ s.requires.0.row s.requires.0.col, area _ _ (omega arith) (omega arith), r.0, r.1)
+    let r = in_reach _ _ _ _ _ c.args.dy c.args.dx c.requires.1 (leads c) in
+    (place_in_lem _ _ _ _ c.requires.0.row c.requires.0.col, area _ _ (omega arith) (omega arith), r.0, r.1)
 
 mul-end : tie.Need-overflow_mul-end
 mul-end c = omega (arith, bounds c.before)
@@ -62,15 +55,12 @@ add-end c = omega (arith, bounds c.before.before)
 
 was-requires : tie.Need-was-requires
 was-requires c κs =
-    let s = start c.before.before in
-    let b = bounds c.before.before in (omega (arith, b, s.requires), λ l. s.requires.0.paints.small _ l b.3)
+    let b = bounds c.before.before in (omega (arith, b, c.requires), λ l. c.requires.0.paints.small _ l b.3)
 
 returns-2 : tie.Need-returns
 returns-2 c =
-    let t = c.before.before.before in
-    let s = start t in
-    let b = bounds t in (
-      λ old shown. c.was.ensures.0 ∙ shown.paint _ b.3 b.2 ∙ look-on old _ _ _ _ s.requires.0.col _ _ _ b.2 (leads t),
+    let b = bounds c.before.before.before in (
+      λ old shown. c.was.ensures.0 ∙ shown.paint _ b.3 b.2 ∙ look-on old _ _ _ _ c.requires.0.col _ _ _ b.2 (leads c.before.before.before),
       c.was.ensures.1,
     )
 

@@ -41,22 +41,18 @@ shared-slice-read-a : tie.Need-bounds-work-w
 shared-slice-read-a c = search rules
 
 returns : tie.Need-returns-then-a-eq0
-returns c old held t = let s = c.before.before.before in stays t (inside s).0 (sym c.if-a-eq0.true ∙ own s old held)
+returns c old held t = stays t (inside c.before.before.before).0 (sym c.if-a-eq0.true ∙ own c.before.before.before old held)
 
 trimmed-requires : tie.Need-trimmed-b-requires
 trimmed-requires c κs =
-    let s = c.before.before.before.before in
-    let small = s.requires.paints.small (place_of s.args.at) (omega (arith, s.requires)) (omega arith) in
-    (s.requires, omega (arith, c.before.if-a-eq0), rw (stands s) at small)
-
-abbrev start : tie.After-trimmed-b → tie.Start
-start c = c.before.before.before.before.before
+    let small = c.requires.paints.small (place_of c.args.at) (omega (arith, c.requires)) (omega arith) in
+    (c.requires, omega (arith, c.if-a-eq0), rw (stands c.before.before.before) at small)
 
 mul-p : tie.Need-overflow_mul-p
-mul-p c = omega (arith, inside (start c.before))
+mul-p c = omega (arith, inside c.before.before.before.before.before)
 
 add-p : tie.Need-overflow_add-p
-add-p c = omega (arith, inside (start c.before))
+add-p c = omega (arith, inside c.before.before.before.before.before)
 
 sub_cells : tie.Need-overflow_sub-cells
 sub_cells c = search rules
@@ -65,22 +61,19 @@ cast-cells : tie.Need-overflow_cast-cells
 cast-cells c = search rules
 
 mul-t10 : tie.Need-offset_bounds-cells-p
-mul-t10 c = omega (arith, inside (start c.before))
+mul-t10 c = omega (arith, inside c.before.before.before.before.before)
 
 slice-set-from-cells : tie.Need-bounds-cells-p
-slice-set-from-cells c = let s = start c.before in omega (arith, inside s, s.requires)
+slice-set-from-cells c = omega (arith, inside c.before.before.before.before.before, c.requires)
 
 same_length : tie.Need-shape_of-cells
 same_length c = search rules
 
 returns-2 : tie.Need-returns
 returns-2 c old held t =
-    let r = c.before in
-    let n = r.before.before in
-    let s = n.before.before.before in
-    let b = r.trimmed-b.ensures.1 in
-    rw (to_z_pos w32 {n = r.trimmed-b.result - 1} (omega arith))
-    (becomes t (inside s).0 _ _ (own s old held) (omega (arith, n.if-a-eq0)) (r.trimmed-b.ensures.0 old (shown s.requires.col held t)) b.0)
+    let b = c.trimmed-b.ensures.1 in
+    rw (to_z_pos w32 {c = c.trimmed-b.result - 1} (omega arith))
+    (becomes t (inside c.before.before.before.before.before).0 _ _ (own c.before.before.before.before.before old held) (omega (arith, c.if-a-eq0)) (c.trimmed-b.ensures.0 old (shown c.requires.col held t)) b.0)
 
 pub trim_cell_spec : {M : Type 1} → statement M
 trim_cell_spec =

@@ -22,35 +22,32 @@ loop-holds c = record { below = omega arith; same = refl; done = λ old held t. 
 
 trim-cell-requires : tie.Need-trim_cell-requires invariant-loop decreases-loop
 trim-cell-requires c κs =
-    let l = c.before in
-    same_room l.before.loop-x.invariant.same (l.before.before.before.requires l.before.loop-x.x l.loop-x-test.true)
+    same_room c.loop-x.invariant.same (c.requires c.loop-x.x c.loop-x-test.true)
 
 add-x : tie.Need-overflow_step-x invariant-loop decreases-loop
-add-x c = let l = c.before.before.before in omega (arith, l.before.before.before.ranges.w)
+add-x c = omega (arith, c.ranges.w)
 
 loop-less : tie.Need-loop-x-smaller invariant-loop decreases-loop
 loop-less c = omega arith
 
 loop-again : tie.Need-loop-x-preserved invariant-loop decreases-loop
 loop-again c =
-    let cut = c.before in
-    let l = cut.before.before in
-    let inv = l.before.loop-x.invariant in
-    let a = l.before.before.before.args in
-    let next : a.y * a.w + l.before.loop-x.x + 1 ≡ a.y * a.w + (l.before.loop-x.x + 1) = omega arith in
+    let inv = c.loop-x.invariant in
+    let a = c.args in
+    let next : a.y * a.w + c.loop-x.x + 1 ≡ a.y * a.w + (c.loop-x.x + 1) = omega arith in
     record {
-      below = omega (arith, l.loop-x-test.true);
-      same = cut.trim_cell.auto.0 ∙ inv.same;
-      done = λ old held t. rw next at (cut.trim_cell.ensures old held (inv.done old held t));
+      below = omega (arith, c.loop-x-test.true);
+      same = c.trim_cell.auto.cells ∙ inv.same;
+      done = λ old held t. rw next at (c.trim_cell.ensures old held (inv.done old held t));
     }
 
 same_length : tie.Need-shape_of-cells invariant-loop decreases-loop
-same_length c = c.before.loop-x.invariant.same
+same_length c = c.loop-x.invariant.same
 
 returns : tie.Need-returns invariant-loop decreases-loop
 returns c old held t =
-    let all : c.before.loop-x.x ≡ c.before.before.before.args.w = omega arith in
-    rw all at (c.before.loop-x.invariant.done old held t)
+    let all : c.loop-x.x ≡ c.args.w = omega arith in
+    rw all at (c.loop-x.invariant.done old held t)
 
 pub trim_row_spec : {M : Type 1} → statement M
 trim_row_spec =

@@ -23,10 +23,9 @@ look-requires-2 c κs = search rules
 
 returns : tie.Need-returns-then-left-right
 returns c =
-    let l = c.before in
-    let s = l.before.before.before in (
-      λ old seen. level _ _ _ s.requires.1 _ _ _ _ (l.before.look-left.ensures.0 old seen) (l.look-right.ensures.0 old seen) refl refl (on_both_same c.if-left-right.true),
-      (s.requires.1, s.requires.2),
+    (
+      λ old seen. level _ _ _ c.requires.1 _ _ _ _ (c.look-left.ensures.0 old seen) (c.look-right.ensures.0 old seen) refl refl (on_both_same c.if-left-right.true),
+      (c.requires.1, c.requires.2),
     )
 
 look-requires-3 : tie.Need-look-above-requires
@@ -43,15 +42,12 @@ on-one-requires-2 c κs = search rules
 
 returns-2 : tie.Need-returns-then-not-on_one
 returns-2 c =
-    let o = c.before in
-    let v = o.before.before in
-    let l = v.before.before.before in
-    let s = l.before.before.before in (
-      λ old seen. elim (either_no o.before.on_one.result o.on_one-2.result c.if-not-on_one.true) [
-        | inl z ↦ level _ _ _ s.requires.1 _ _ _ _ (l.before.look-left.ensures.0 old seen) (l.look-right.ensures.0 old seen) (v.before.look-above.ensures.0 old seen) (v.look-below.ensures.0 old seen) (o.before.on_one.ensures z)
-        | inr z ↦ upright _ _ _ s.requires.1 _ _ _ _ (l.before.look-left.ensures.0 old seen) (l.look-right.ensures.0 old seen) (v.before.look-above.ensures.0 old seen) (v.look-below.ensures.0 old seen) (o.on_one-2.ensures z)
+    (
+      λ old seen. elim (either_no c.on_one.result c.on_one-2.result c.if-not-on_one.true) [
+        | inl z ↦ level _ _ _ c.requires.1 _ _ _ _ (c.look-left.ensures.0 old seen) (c.look-right.ensures.0 old seen) (c.look-above.ensures.0 old seen) (c.look-below.ensures.0 old seen) (c.on_one.ensures z)
+        | inr z ↦ upright _ _ _ c.requires.1 _ _ _ _ (c.look-left.ensures.0 old seen) (c.look-right.ensures.0 old seen) (c.look-above.ensures.0 old seen) (c.look-below.ensures.0 old seen) (c.on_one-2.ensures z)
       ],
-      (s.requires.1, s.requires.2),
+      (c.requires.1, c.requires.2),
     )
 
 toward-requires : tie.Need-toward-requires
@@ -59,9 +55,6 @@ toward-requires c κs = search rules
 
 toward-requires-2 : tie.Need-toward-requires-2
 toward-requires-2 c κs = search rules
-
-abbrev start : tie.Else-not-on_one → tie.Start
-start c = c.before.before.before.before.before.before.before.before.before
 
 -- the ways to the arms
 rows : (c : tie.After-toward) → Sign c.toward.result
@@ -72,31 +65,24 @@ cols c = rw c.toward-2.ensures (toward_sign _ _)
 
 cut-requires : tie.Need-cut-to-requires
 cut-requires c κs =
-    let s = start c.before.before in
-    (s.requires.0, rw (on (rows c.before), on (cols c)) (record { rows = rows c.before; cols = cols c }), s.requires.1)
+    (c.requires.0, rw (on (rows c.before), on (cols c)) (record { rows = rows c.before; cols = cols c }), c.requires.1)
 
 -- what comes of the one corner
 comes : (c : tie.After-cut-to) (old : List ℤ) →
-    let a = (start c.before.before.before).args in
+    let a = c.args in
     Shown old a.cells.now a.work.now a.at →
     or_else c.cut-to.result a.a ≡ paint_of (trimmed_by (sheet_of old a.at.h a.at.w) (place_of a.at) corners (cell_of a.a))
 comes c old seen =
-    let t = c.before in
-    let e = t.before.before in
-    let v = e.before.before.before in
-    let l = v.before.before.before in
-    let s = start e in
-    let k = rw (on (rows t.before), on (cols t), t.before.toward.ensures, t.toward-2.ensures) at (c.cut-to.ensures.0 old seen) in
-    ap (λ (b : ℕ). or_else b s.args.a) k
-    ∙ turned _ _ _ s.requires.1 _ _ _ _ (l.before.look-left.ensures.0 old seen) (l.look-right.ensures.0 old seen) (v.before.look-above.ensures.0 old seen) (v.look-below.ensures.0 old seen)
+    let k = rw (on (rows c.before.before), on (cols c.before), c.toward.ensures, c.toward-2.ensures) at (c.cut-to.ensures.0 old seen) in
+    ap (λ (b : ℕ). or_else b c.args.a) k
+    ∙ turned _ _ _ c.requires.1 _ _ _ _ (c.look-left.ensures.0 old seen) (c.look-right.ensures.0 old seen) (c.look-above.ensures.0 old seen) (c.look-below.ensures.0 old seen)
 
 returns-3 : tie.Need-returns-then-to-eq0
 returns-3 c =
-    let s = start c.before.before.before.before in
-    (λ old seen. or_other _ _ c.if-to-eq0.true ∙ comes c.before old seen, (s.requires.1, s.requires.2))
+    (λ old seen. or_other _ _ c.if-to-eq0.true ∙ comes c.before old seen, (c.requires.1, c.requires.2))
 
 returns-4 : tie.Need-returns-else-to-eq0
-returns-4 c = let b : 0 < c.before.cut-to.result = omega arith in (λ old seen. or_this _ _ b ∙ comes c.before old seen, (b, c.before.cut-to.ensures.1))
+returns-4 c = let b : 0 < c.cut-to.result = omega arith in (λ old seen. or_this _ _ b ∙ comes c.before old seen, (b, c.cut-to.ensures.1))
 
 pub trimmed_spec : {M : Type 1} → statement M
 trimmed_spec =

@@ -28,39 +28,27 @@ enum-known-row c = search rules
 returns : tie.Need-returns-in-Refused
 unfolding regions_refusal regions_answer regions_labels labelling
 returns c =
-    let e = filling_some c.before.before.before.grid_refusal.ensures c.before.row-1.given.1 in
+    let e = filling_some c.grid_refusal.ensures c.in-Refused.is in
     (some_unless _ _ e, some_unless _ _ e)
 
 enum_told : tie.Need-enum_told-1
 enum_told c = search rules
 
--- where the rows are judged
-abbrev judged : tie.In_default → tie.After-grid_refusal
-judged c = c.before.before
-
-abbrev start : tie.In_default → tie.Start
-start c = (judged c).before.before.before
-
 -- no row applies
-clear : (c : tie.In_default) → let a = (start c).args in grid_refusal a.h a.w (length a.cells.now) (length a.labels-1.now) (length a.work-1.now) [] ≡ none
-clear c = filling_none (judged c).grid_refusal.ensures c.enum_told-1.given.1
+clear : (c : tie.In_default) → let a = c.args in grid_refusal a.h a.w (length a.cells.now) (length a.labels.now) (length a.work.now) [] ≡ none
+clear c = filling_none c.grid_refusal.ensures c.in_default.is
 
-fit : (c : tie.In_default) → let a = (start c).args in Room a.h a.w (a.h * a.w) (length a.cells.now) (length a.work-1.now) × (a.h * a.w ≤ length a.labels-1.now)
+fit : (c : tie.In_default) → let a = c.args in Room a.h a.w (a.h * a.w) (length a.cells.now) (length a.work.now) × (a.h * a.w ≤ length a.labels.now)
 fit c = grid_room (clear c)
 
 load-requires : tie.Need-load-requires
 load-requires c κs = let f = fit c.before in whole_tile _ _ _ _ (omega (arith, f.0.high)) (omega (arith, f.0.wide)) f.0.held f.0.free
 
--- where the sheet is loaded
-abbrev loaded : tie.After-label_into-arg-2-1 → tie.After-load
-loaded c = c.before.before.before.before
-
 label-into-requires : tie.Need-label_into-count-requires
 label-into-requires c κs =
-    let l = loaded c in
-    let f = fit l.before.before in (
-      (record { rows = omega (arith, f.0.high); cols = omega (arith, f.0.wide); count = inr refl; planes = omega (arith, f.0.free, l.load.kept.1.0) }, f.1),
-      paints_plane l.load.ensures.1,
+    let f = fit c.before.before.before.before.before.before in (
+      (record { rows = omega (arith, f.0.high); cols = omega (arith, f.0.wide); count = inr refl; planes = omega (arith, f.0.free, c.load.kept.1.0) }, f.1),
+      paints_plane c.load.ensures.1,
     )
 
 same_length : tie.Need-shape_of-labels
@@ -70,20 +58,18 @@ same-length-2 : tie.Need-shape_of-work
 same-length-2 c = search rules
 
 -- plane 0 once it is loaded
-painted : (c : tie.After-load) → let a = (start c.before.before).args in Painted (take (a.h * a.w) a.cells.now) (a.h * a.w) c.load.new.work
+painted : (c : tie.After-load) → let a = c.args in Painted (take (a.h * a.w) a.cells.now) (a.h * a.w) c.load.new.work
 painted c =
-    let a = (start c.before.before).args in
-    subst (Painted (take (a.h * a.w) a.cells.now) (a.h * a.w)) (sym c.load.ensures.0) (load_whole a.cells.now a.work-1.now a.h a.w (fit c.before.before).0.held)
+    let a = c.args in
+    subst (Painted (take (a.h * a.w) a.cells.now) (a.h * a.w)) (sym c.load.ensures.0) (load_whole a.cells.now a.work.now a.h a.w (fit c.before.before).0.held)
 
 returns-2 : tie.Need-returns
 unfolding regions_refusal regions_answer regions_labels labelling
 returns-2 c =
-    let i = c.before.before.before.before in
-    let l = loaded i.before in
-    let s = painted l in
-    let e = neighbours-eight (start l.before.before).args.w refl in
-    let z = clear l.before.before in
-    (none_unless _ _ z (ap Regions (i.label_into-count.ensures.0 ∙ painted-regions s e)), none_unless _ _ z (i.label_into-count.ensures.1 ∙ painted_labels s e _))
+    let s = painted c.before.before.before.before.before.before.before.before.before in
+    let e = neighbours-eight c.args.w refl in
+    let z = clear c.before.before.before.before.before.before.before.before.before.before.before in
+    (none_unless _ _ z (ap Regions (c.label_into-count.ensures.0 ∙ painted-regions s e)), none_unless _ _ z (c.label_into-count.ensures.1 ∙ painted_labels s e _))
 
 pub label_regions_spec : {M : Type 1} → statement M
 label_regions_spec =

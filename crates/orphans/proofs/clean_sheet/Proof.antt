@@ -18,12 +18,9 @@ use borrow.Author.Rules.{rules}
 use Rattle.orphans.proofs.clean_sheet.Statement.{statement}
 use Rattle.orphans.proofs.clean_sheet.Tie as tie
 
-abbrev entered : tie.After-struct_told-1 → tie.Start
-entered c = c.before.before.before
-
 -- the region limit, as its 32 bits give it
 abbrev region : tie.After-struct_told-1 → ℤ
-region c = (entered c).args.limits.region
+region c = c.args.limits.region
 
 known : (c : tie.After-struct_told-1) → SFits w32 (region c)
 known c = record { sfits = c.struct_told-1.given.0.1 }
@@ -33,58 +30,40 @@ back c = to_z-of_z {w = w32} {z = region c} (known c)
 
 returns : tie.Need-returns-then-min_region-lt2
 returns c =
-    let t = c.before in
-    let s = entered t in
-    none_cleaned s.requires s.args.max-passes s.args.limits.colour (rw (back t) at c.if-min_region-lt2.true)
+    none_cleaned c.requires c.args.max-passes c.args.limits.colour (rw (back c.before) at c.if-min_region-lt2.true)
 
 low : (c : tie.Else-min_region-lt2) → lt_z (region c.before) (pos 2) ≡ false
 low c = rw (back c.before) at c.if-min_region-lt2.false
 
 cast-limit : tie.Need-overflow_cast-limit
 cast-limit c =
-    let t = c.before in
-    let z = region t in
-    let l : nat_abs z ≤ 2147483648 = nat_abs-le z (known t).sfits in
+    let z = region c.before in
+    let l : nat_abs z ≤ 2147483648 = nat_abs-le z (known c.before).sfits in
     let p : T (non_neg z) × Fits w32 (nat_abs z) = (not_negative_lem z (low c), omega arith) in
-    rw (back t) p
-
-abbrev begun : tie.After-load → tie.Else-min_region-lt2
-begun c = c.before.before.before
-
-abbrev start : tie.After-load → tie.Start
-start c = entered (begun c).before
+    rw (back c.before) p
 
 load-requires : tie.Need-load-requires
-load-requires c κs = let f = (entered c.before.before.before).requires in whole_tile _ _ _ _ f.rows f.cols f.reads f.planes
+load-requires c κs = let f = c.requires in whole_tile _ _ _ _ f.rows f.cols f.reads f.planes
 
 -- plane 0 once it is loaded
-painted : (c : tie.After-load) → let a = (start c).args in let n = a.size.h * a.size.w in Painted (take n a.cells-1.now) n c.load.new.work
+painted : (c : tie.After-load) → let a = c.args in let n = a.size.h * a.size.w in Painted (take n a.cells.now) n c.load.new.work
 painted c =
-    let a = (start c).args in
+    let a = c.args in
     let n = a.size.h * a.size.w in
-    subst (Painted (take n a.cells-1.now) n) (sym c.load.ensures.0) (load_whole a.cells-1.now a.work-1.now a.size.h a.size.w (start c).requires.reads)
+    subst (Painted (take n a.cells.now) n) (sym c.load.ensures.0) (load_whole a.cells.now a.work.now a.size.h a.size.w c.requires.reads)
 
 clean-planes-requires : tie.Need-clean_planes-count-requires
 clean-planes-requires c κs =
-    let l = c.before.before.before in
-    let f = (start l).requires in (
-      record { rows = f.rows; cols = f.cols; count = inr refl; planes = rw l.load.auto.1.0 f.planes },
-      (loaded_known f (low (begun l)) l.load.new.work (painted l), f.doubles),
+    let f = c.requires in (
+      record { rows = f.rows; cols = f.cols; count = inr refl; planes = rw c.load.auto.work f.planes },
+      (loaded_known f (low c.before.before.before.before.before) c.load.new.work (painted c.before.before.before), f.doubles),
     )
-
-abbrev cleaned : tie.After-store-arg2 → tie.After-clean_planes-count
-cleaned c = c.before.before.before.before
-
-abbrev loaded : tie.After-clean_planes-count → tie.After-load
-loaded c = c.before.before.before.before
 
 store-requires : tie.Need-store-requires
 store-requires c κs =
-    let v = cleaned c in
-    let l = loaded v in
-    let f = (start l).requires in (
-      whole_tile _ _ _ _ f.rows f.cols f.reads (rw (v.clean_planes-count.ensures.len, l.load.kept.1.0) f.planes),
-      (λ p h. omega (arith, v.clean_planes-count.ensures.known.below p h, f.entries)),
+    let f = c.requires in (
+      whole_tile _ _ _ _ f.rows f.cols f.reads (rw (c.clean_planes-count.ensures.len, c.load.kept.1.0) f.planes),
+      (λ p h. omega (arith, c.clean_planes-count.ensures.known.below p h, f.entries)),
     )
 
 same_length : tie.Need-shape_of-cells
@@ -95,14 +74,10 @@ same-length-2 c = search rules
 
 returns-2 : tie.Need-returns
 returns-2 c =
-    let t = c.before in
-    let v = cleaned t.before in
-    let l = loaded v in
-    let s = start l in
-    let z = region (begun l).before in
-    let e : pos (nat_abs (to_z w32 (of_z w32 z))) ≡ z = rw (back (begun l).before) (pos-nat_abs z (not_negative_lem z (low (begun l)))) in
-    let r = all_cleaned s.requires s.args.max-passes s.args.limits.colour (nat_abs (to_z w32 (of_z w32 z))) e l.load.last.1.0 v.clean_planes-count.last.0 v.clean_planes-count.result (painted l) v.clean_planes-count.ensures in
-    (r.0, t.store.ensures ∙ store_whole s.args.cells.now v.clean_planes-count.last.0 s.args.size.h s.args.size.w s.requires.reads ∙ r.1)
+    let z = region c in
+    let e : pos (nat_abs (to_z w32 (of_z w32 z))) ≡ z = rw (back c) (pos-nat_abs z (not_negative_lem z (low c.before.before.before.before.before.before.before.before.before.before.before))) in
+    let r = all_cleaned c.requires c.args.max-passes c.args.limits.colour (nat_abs (to_z w32 (of_z w32 z))) e c.load.new.work c.clean_planes-count.new.work c.clean_planes-count.result (painted c.before.before.before.before.before.before.before.before.before) c.clean_planes-count.ensures in
+    (r.0, c.store.ensures ∙ store_whole c.args.cells.now c.clean_planes-count.new.work c.args.size.h c.args.size.w c.requires.reads ∙ r.1)
 
 pub clean_sheet_spec : {M : Type 1} → statement M
 clean_sheet_spec =

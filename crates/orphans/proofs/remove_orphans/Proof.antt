@@ -24,84 +24,60 @@ use Rattle.orphans.proofs.remove_orphans.Tie as tie
 
 -- ---- the call
 
-abbrev start : tie.After-sheet_refusal → tie.Start
-start c = c.before.before.before
-
 abbrev call : tie.After-sheet_refusal → OrphansCall
 call c =
-    let s = (start c).args in
+    let s = c.args in
     record {
-      lent = lent_sheet s.cells-1.now s.h s.w (length s.work-1.now);
+      lent = lent_sheet s.cells.now s.h s.w (length s.work.now);
       palette = palette_of s.palette.now s.k;
       limits = limits_at s.orphan-min-region s.orphan-max-delta;
       passes = s.max-passes;
     }
 
 -- the region limit comes back from its 32 bits
-back : (c : tie.After-sheet_refusal) → to_z w32 (of_z w32 (start c).args.orphan-min-region) ≡ (start c).args.orphan-min-region
-back c = to_z-of_z (start c).ranges.orphan-min-region
+back : (c : tie.After-sheet_refusal) → to_z w32 (of_z w32 c.args.orphan-min-region) ≡ c.args.orphan-min-region
+back c = to_z-of_z c.ranges.orphan-min-region
 
 -- ---- rows 1 to 3
 
-abbrev seen : tie.In_default → tie.After-sheet_refusal
-seen c = c.before.before
-
-one : (c : tie.In_default) → refusal (lent_rows (call (seen c)).lent false) ≡ none
-one c = filling_none (seen c).sheet_refusal.ensures c.enum_told-1.given.1
+one : (c : tie.In_default) → refusal (lent_rows (call c.before).lent false) ≡ none
+one c = filling_none c.sheet_refusal.ensures c.in_default.is
 
 -- ---- rows 4 to 6
 
-abbrev roomy : tie.After-palette_refusal → tie.In_default
-roomy c = c.before.before
-
-settings : (c : tie.After-palette_refusal) → let k = call (seen (roomy c)) in c.palette_refusal.result ≡ filling (refusal (palette_rows k.palette (bad_limits k.limits k.passes)))
+settings : (c : tie.After-palette_refusal) → let k = call c.before.before.before in c.palette_refusal.result ≡ filling (refusal (palette_rows k.palette (bad_limits k.limits k.passes)))
 unfolding bad_limits
 settings c =
-    let k = call (seen (roomy c)) in
-    c.palette_refusal.ensures ∙ ap (λ (b : Bool). filling (refusal (palette_rows k.palette b))) c.before.bad_limits-bad.ensures
+    let k = call c.before.before.before in
+    c.palette_refusal.ensures ∙ ap (λ (b : Bool). filling (refusal (palette_rows k.palette b))) c.bad_limits-bad.ensures
 
-abbrev entered : tie.In_default-palette_refusal → tie.In_default
-entered c = roomy c.before.before
-
-two : (c : tie.In_default-palette_refusal) → let k = call (seen (entered c)) in refusal (palette_rows k.palette (bad_limits k.limits k.passes)) ≡ none
-two c = filling_none (settings c.before.before) c.enum_told-in_default-palette_refusal-1.given.1
+two : (c : tie.In_default-palette_refusal) → let k = call c.before.before.before.before in refusal (palette_rows k.palette (bad_limits k.limits k.passes)) ≡ none
+two c = filling_none (settings c.before) c.in_default-palette_refusal.is
 
 -- ---- row 7
 
-abbrev usable : tie.After-bad_index → tie.In_default-palette_refusal
-usable c = c.before.before
-
-index : (c : tie.After-bad_index) → unnamed (call (seen (entered (usable c)))) ≡ c.bad_index.result
-index c = sym (rw (back (seen (entered (usable c)))) at c.bad_index.ensures)
+index : (c : tie.After-bad_index) → unnamed (call c.before.before.before.before.before) ≡ c.bad_index.result
+index c = sym (rw (back c.before.before.before.before.before) at c.bad_index.ensures)
 
 returns : tie.Need-returns-in-Refused
 returns c =
-    let r = c.before.before.before in
-    met_refused (call r) _ (by_sheet (call r) (filling_some r.sheet_refusal.ensures c.before.row-1.given.1))
+    met_refused (call c.before) _ (by_sheet (call c.before) (filling_some c.sheet_refusal.ensures c.in-Refused.is))
 
 returns-2 : tie.Need-returns-in-Refused-palette_refusal
 returns-2 c =
-    let r = c.before.before.before in
-    let e = roomy r in
-    let k = call (seen e) in
-    met_refused k _ (by_palette k (one e) (filling_some (settings r) c.before.row-in-Refused-palette_refusal-1.given.1))
+    let k = call c.before.before.before.before in
+    met_refused k _ (by_palette k (one c.before.before.before) (filling_some (settings c.before) c.in-Refused-palette_refusal.is))
 
 returns-3 : tie.Need-returns-then-bad_index
 returns-3 c =
-    let u = usable c.before in
-    let e = entered u in
-    let k = call (seen e) in
-    met_refused k _ (by_index k (one e) (two u) (index c.before ∙ c.if-bad_index.true))
+    let k = call c.before.before.before.before.before.before in
+    met_refused k _ (by_index k (one c.before.before.before.before.before) (two c.before.before) (index c.before ∙ c.if-bad_index.true))
 
 returns-4 : tie.Need-returns
 returns-4 c =
-    let v = c.before.before.before in
-    let n = v.before.before.before in
-    let u = usable n.before in
-    let e = entered u in
-    let k = call (seen e) in
-    let z = index n.before ∙ n.if-bad_index.false in
-    met_cleaned k (accepted k (one e) (two u) z) _ _ (rw (back (seen e)) at v.clean_sheet-count.ensures.0) (rw (back (seen e)) at v.clean_sheet-count.ensures.1)
+    let k = call c.before.before.before.before.before.before.before.before.before.before.before.before in
+    let z = index c.before.before.before.before.before.before.before ∙ c.if-bad_index.false in
+    met_cleaned k (accepted k (one c.before.before.before.before.before.before.before.before.before.before.before) (two c.before.before.before.before.before.before.before.before) z) _ _ (rw (back c.before.before.before.before.before.before.before.before.before.before.before.before) at c.clean_sheet-count.ensures.0) (rw (back c.before.before.before.before.before.before.before.before.before.before.before.before) at c.clean_sheet-count.ensures.1)
 
 sheet-refusal-requires : tie.Need-sheet_refusal-requires
 sheet-refusal-requires c κs = search rules
@@ -125,19 +101,16 @@ enum-told-2 : tie.Need-enum_told-in_default-palette_refusal
 enum-told-2 c = search rules
 
 mul-bad-index : tie.Need-overflow_mul-h
-mul-bad-index c = omega (arith, (sheet_room [] (one (entered c.before))).0.few)
+mul-bad-index c = omega (arith, (sheet_room [] (one c.before.before.before)).0.few)
 
 bad-index-requires : tie.Need-bad_index-requires
 unfolding needed
-bad-index-requires c κs = let u = c.before in ((palette_room [] (two u)).0.few, (sheet_room [] (one (entered u))).0.held)
+bad-index-requires c κs = ((palette_room [] (two c)).0.few, (sheet_room [] (one c.before.before.before)).0.held)
 
 clean-sheet-requires : tie.Need-clean_sheet-count-requires
 clean-sheet-requires c κs =
-    let n = c.before.before in
-    let u = usable n.before in
-    let e = entered u in
-    let k = call (seen e) in
-    rw (back (seen e)) (fits k (one e) (two u) (index n.before ∙ n.if-bad_index.false))
+    let k = call c.before.before.before.before.before.before.before.before in
+    rw (back c.before.before.before.before.before.before.before.before) (fits k (one c.before.before.before.before.before.before.before) (two c.before.before.before.before) (index c.before.before.before ∙ c.if-bad_index.false))
 
 same_length : tie.Need-shape_of-cells-then-bad_index
 same_length c = search rules

@@ -21,15 +21,12 @@ use Rattle.outline.proofs.add_outline.Tie as tie
 
 -- ---- the call
 
-abbrev start : tie.After-padding-padding → tie.Start
-start c = c.before.before.before.before
-
 abbrev call : tie.After-padding-padding → OutlineCall
 call c =
-    let s = (start c).args in
+    let s = c.args in
     record {
-      lent = lent_sheet s.cells-1.now s.h s.w (length s.work-1.now);
-      palette = palette_of s.palette-1.now s.k;
+      lent = lent_sheet s.cells.now s.h s.w (length s.work.now);
+      palette = palette_of s.palette.now s.k;
       how = record { outline = s.outline; allow_pad = s.allow-pad; fixed_palette = s.fixed-palette };
     }
 
@@ -40,85 +37,65 @@ pads_it c = pads (call c).how (sheet_in (call c).lent)
 
 sheet-judged : (c : tie.After-sheet_refusal) → c.sheet_refusal.result ≡ filling (refusal (lent_rows (call c.before).lent (pads_it c.before)))
 sheet-judged c =
-    let p = c.before in
-    let s = (start p).args in
-    c.sheet_refusal.ensures ∙ ap filling (padded_rows (call p).how s.cells-1.now s.h s.w (length s.work-1.now) p.padding-padding.ensures)
+    let s = c.args in
+    c.sheet_refusal.ensures ∙ ap filling (padded_rows (call c.before).how s.cells.now s.h s.w (length s.work.now) c.padding-padding.ensures)
 
-abbrev padded : tie.In_default → tie.After-padding-padding
-padded c = c.before.before.before
+first : (c : tie.In_default) → refusal (lent_rows (call c.before.before).lent (pads_it c.before.before)) ≡ none
+first c = filling_none (sheet-judged c.before) c.in_default.is
 
-first : (c : tie.In_default) → refusal (lent_rows (call (padded c)).lent (pads_it (padded c))) ≡ none
-first c = filling_none (sheet-judged c.before.before) c.enum_told-1.given.1
-
-room : (c : tie.In_default) → let s = (start (padded c)).args in Room s.h s.w (needed s.h s.w (pads_it (padded c))) (length s.cells-1.now) (length s.work-1.now)
+room : (c : tie.In_default) → let s = c.args in Room s.h s.w (needed s.h s.w (pads_it c.before.before)) (length s.cells.now) (length s.work.now)
 room c = (sheet_room _ (first c)).0
 
-padding-is : (c : tie.In_default) → (padded c).padding-padding.result ≡ pads_it (padded c)
+padding-is : (c : tie.In_default) → c.padding-padding.result ≡ pads_it c.before.before
 padding-is c =
-    let p = padded c in
-    let s = (start p).args in
-    padded-is (call p).how s.cells-1.now s.h s.w (length s.work-1.now) p.padding-padding.ensures (first c)
+    let s = c.args in
+    padded-is (call c.before.before).how s.cells.now s.h s.w (length s.work.now) c.padding-padding.ensures (first c)
 
 -- ---- rows 4 to 6
 
-abbrev entered : tie.In_default-palette_refusal → tie.In_default
-entered c = c.before.before.before.before.before
-
-second : (c : tie.After-palette_refusal) → let k = call (padded c.before.before.before) in c.palette_refusal.result ≡ filling (refusal (palette_rows k.palette-1 (bad_outline k.how.outline)))
+second : (c : tie.After-palette_refusal) → let k = call c.before.before.before.before in c.palette_refusal.result ≡ filling (refusal (palette_rows k.palette (bad_outline k.how.outline)))
 second c =
-    let k = call (padded c.before.before.before) in
-    c.palette_refusal.ensures ∙ ap (λ (b : Bool). filling (refusal (palette_rows k.palette-1 b))) c.before.bad_outline.ensures
+    let k = call c.before.before.before.before in
+    c.palette_refusal.ensures ∙ ap (λ (b : Bool). filling (refusal (palette_rows k.palette b))) c.bad_outline.ensures
 
-colours : (c : tie.In_default-palette_refusal) → let k = call (padded (entered c)) in refusal (palette_rows k.palette-1 (bad_outline k.how.outline)) ≡ none
-colours c = filling_none (second c.before.before) c.enum_told-in_default-palette_refusal-1.given.1
+colours : (c : tie.In_default-palette_refusal) → let k = call c.before.before.before.before.before in refusal (palette_rows k.palette (bad_outline k.how.outline)) ≡ none
+colours c = filling_none (second c.before) c.in_default-palette_refusal.is
 
-usable : (c : tie.In_default-palette_refusal) → let k = call (padded (entered c)) in Usable k.palette-1 (bad_outline k.how.outline)
+usable : (c : tie.In_default-palette_refusal) → let k = call c.before.before.before.before.before in Usable k.palette (bad_outline k.how.outline)
 usable c = (palette_room _ (colours c)).0
 
 -- ---- row 8
 
-abbrev past : tie.After-no_entry → tie.In_default-palette_refusal
-past c = c.before.before
-
-eighth : (c : tie.After-no_entry) → let k = call (padded (entered (past c))) in c.no_entry.result ≡ (no_entry k.how k.palette-1 (canvas (pads k.how (sheet_in k.lent)) (sheet_in k.lent))).applies
+eighth : (c : tie.After-no_entry) → let k = call c.before.before.before.before.before.before in c.no_entry.result ≡ (no_entry k.how k.palette (canvas (pads k.how (sheet_in k.lent)) (sheet_in k.lent))).applies
 unfolding no_entry
 eighth c =
-    let e = entered (past c) in
-    let k = call (padded e) in
-    c.no_entry.ensures ∙ ap (λ (b : Bool). (no_entry k.how k.palette-1 (canvas b (sheet_in k.lent))).applies) (padding-is e)
+    let k = call c.before.before.before.before.before.before in
+    c.no_entry.ensures ∙ ap (λ (b : Bool). (no_entry k.how k.palette (canvas b (sheet_in k.lent))).applies) (padding-is c.before.before.before.before)
 
 -- the refusals, and that there is none
 returns : tie.Need-returns-in-Refused
 unfolding outline_refusal
 returns c =
-    let r = c.before.before.before in
-    met_refused (call r.before) _ (rows_hit _ _ (filling_some (sheet-judged r) c.before.n-1.given.1))
+    met_refused (call c.before.before) _ (rows_hit _ _ (filling_some (sheet-judged c.before) c.in-Refused.is))
 
 returns-2 : tie.Need-returns-in-Refused-palette_refusal
 unfolding outline_refusal
 returns-2 c =
-    let r = c.before.before.before in
-    let e = r.before.before.before in
-    met_refused (call (padded e)) _ (rows_pass _ _ (first e) ∙ rows_hit _ _ (filling_some (second r) c.before.n-in-Refused-palette_refusal-1.given.1))
+    met_refused (call c.before.before.before.before.before) _ (rows_pass _ _ (first c.before.before.before) ∙ rows_hit _ _ (filling_some (second c.before) c.in-Refused-palette_refusal.is))
 
 returns-3 : tie.Need-returns-then-no_entry
 unfolding outline_refusal no_entry
 returns-3 c =
-    let t = past c.before in
-    let e = entered t in
-    met_refused (call (padded e)) _ (rows_pass _ _ (first e) ∙ rows_pass _ _ (colours t) ∙ row_hit _ _ (sym (eighth c.before) ∙ c.if-no_entry.true))
+    met_refused (call c.before.before.before.before.before.before.before) _ (rows_pass _ _ (first c.before.before.before.before.before) ∙ rows_pass _ _ (colours c.before.before) ∙ row_hit _ _ (sym (eighth c.before) ∙ c.if-no_entry.true))
 
-accepted : (c : tie.Else-no_entry) → outline_refusal (call (padded (entered (past c.before)))) ≡ none
+accepted : (c : tie.Else-no_entry) → outline_refusal (call c.before.before.before.before.before.before.before) ≡ none
 unfolding outline_refusal
 accepted c =
-    let t = past c.before in
-    rows_pass _ _ (first (entered t)) ∙ rows_pass _ _ (colours t) ∙ row_last _ (sym (eighth c.before) ∙ c.if-no_entry.false)
+    rows_pass _ _ (first c.before.before.before.before.before) ∙ rows_pass _ _ (colours c.before.before) ∙ row_last _ (sym (eighth c.before) ∙ c.if-no_entry.false)
 
 returns-4 : tie.Need-returns
 returns-4 c =
-    let d = c.before.before.before.before.before in
-    let n = d.before.before.before.before in
-    met_drawn (call (padded (entered (past n.before)))) (accepted n) d.outline_sheet.ensures
+    met_drawn (call c.before.before.before.before.before.before.before.before.before.before.before.before.before.before.before.before) (accepted c.before.before.before.before.before.before.before.before.before) c.outline_sheet.ensures
 
 padding-requires : tie.Need-padding-padding-requires
 padding-requires c κs = search rules
@@ -155,9 +132,8 @@ enum-told-2 c = search rules
 
 no-entry-requires : tie.Need-no_entry-requires
 no-entry-requires c κs =
-    let e = entered c.before in
-    let k = call (padded e) in
-    (seated _ k.lent.cells-1 (room e), λ y. pad_touches k.how (sheet_in k.lent) (sym (padding-is e) ∙ y))
+    let k = call c.before.before.before.before.before in
+    (seated _ k.lent.cells (room c.before.before.before), λ y. pad_touches k.how (sheet_in k.lent) (sym (padding-is c.before.before.before) ∙ y))
 
 same-length-4 : tie.Need-shape_of-cells-then-no_entry
 same-length-4 c = search rules
@@ -167,9 +143,8 @@ same-length-5 c = search rules
 
 outline-sheet-requires : tie.Need-outline_sheet-requires
 outline-sheet-requires c κs =
-    let t = past c.before.before.before.before in
-    let u = usable t in
-    (room (entered t), (u.whole, u.few))
+    let u = usable c.before.before.before.before.before in
+    (room c.before.before.before.before.before.before.before.before, (u.whole, u.few))
 
 same-length-6 : tie.Need-shape_of-cells
 same-length-6 c = search rules

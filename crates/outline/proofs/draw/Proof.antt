@@ -3,7 +3,7 @@ use Prim.Native.Nat.{ℕ, ◌*◌, ◌<◌}
 use mathlib.Core.Path.{refl, sym, ap, ◌∙◌}
 use mathlib.Core.List.{List}
 use native.Mathlib.Omega.{arith}
-use borrow.Author.Tests.{not_true, not_false}
+use borrow.Author.Tests.{not-true, not-false}
 use borrow.Author.Rules.{rules}
 use Rattle.base.specs.Outputs.{filled}
 use Rattle.outline_entry.proofs.Choosing.{index_below}
@@ -12,14 +12,8 @@ use Rattle.outline.proofs.Drawn.{drew_none, drew_ring}
 use Rattle.outline.proofs.draw.Statement.{statement}
 use Rattle.outline.proofs.draw.Tie as tie
 
-abbrev chosen : tie.After-mark_ring → tie.After-choose-chosen
-chosen c = c.before.before.before.before.before
-
-abbrev start : tie.After-choose-chosen → tie.Start
-start c = c.before.before.before.before.before.before.before.before.before
-
 small : (c : tie.After-choose-chosen) → c.choose-chosen.result.index < 256
-small c = rw c.choose-chosen.ensures.at (index_below _ _ _ _ (start c).requires.1.1)
+small c = rw c.choose-chosen.ensures.at (index_below _ _ _ _ c.requires.1.1)
 
 has-ring-requires : tie.Need-has_ring-requires
 has-ring-requires c κs = search rules
@@ -29,8 +23,7 @@ same_length c = search rules
 
 returns : tie.Need-returns-then-not-has_ring
 returns c =
-    let s = c.before.before.before.before.before in
-    drew_none _ _ _ _ _ _ s.requires.0.room (sym c.before.has_ring.ensures ∙ not_true c.before.has_ring.result c.if-not-has_ring.true)
+    drew_none _ _ _ _ _ _ c.requires.0.room (sym c.has_ring.ensures ∙ not-true c.has_ring.result c.if-not-has_ring.true)
 
 outline-color-lab-requires : tie.Need-outline_color_lab-c-requires
 outline-color-lab-requires c κs = search rules
@@ -46,12 +39,10 @@ mul-ink c = search rules
 
 ink-requires : tie.Need-ink-requires
 ink-requires c κs =
-    let m = c.before.before.before.before in
-    let s = start (chosen m) in
-    (s.requires.0.room, omega (arith, m.mark_ring.auto.1.1.1.0, s.requires.1.2), omega (arith, small (chosen m)))
+    (c.requires.0.room, omega (arith, c.mark_ring.auto.marks, c.requires.1.2), omega (arith, small c.before.before.before.before.before.before.before))
 
 cast-t33 : tie.Need-overflow_cast-result
-cast-t33 c = record { fits = omega (arith, small (chosen c.before.before.before.before.before.before)) }
+cast-t33 c = record { fits = omega (arith, small c.before.before.before.before.before.before.before.before.before) }
 
 same-length-2 : tie.Need-shape_of-cells
 same-length-2 c = search rules
@@ -65,15 +56,11 @@ same-length-4 c = search rules
 returns-2 : tie.Need-returns
 unfolding painted
 returns-2 c =
-    let m = c.before.before.before.before.before.before in
-    let d = chosen m in
-    let s = start d in
-    let l = d.before.before in
-    drew_ring _ _ _ _ _ _ s.requires.0.room
-    (sym l.before.before.before.has_ring.ensures ∙ not_false l.before.before.before.has_ring.result l.before.before.if-not-has_ring.false) _ _ _ _
-    _ l.outline_color_lab-c.ensures d.choose-chosen.ensures
-    (c.before.ink.ensures ∙ ap (λ (k : List ℕ). filled (s.args.size.h * s.args.size.w) (painted s.args.cells.now k d.choose-chosen.result.index) s.args.cells.now) m.mark_ring.ensures
-    ∙ inked-is _ _ _ _ _ s.requires.0.room)
+    drew_ring _ _ _ _ _ _ c.requires.0.room
+    (sym c.has_ring.ensures ∙ not-false c.has_ring.result c.if-not-has_ring.false) _ _ _ _
+    _ c.outline_color_lab-c.ensures c.choose-chosen.ensures
+    (c.ink.ensures ∙ ap (λ (k : List ℕ). filled (c.args.size.h * c.args.size.w) (painted c.args.cells.now k c.choose-chosen.result.index) c.args.cells.now) c.mark_ring.ensures
+    ∙ inked-is _ _ _ _ _ c.requires.0.room)
 
 pub draw_spec : {M : Type 1} → statement M
 draw_spec =

@@ -4,7 +4,7 @@ use mathlib.Core.Path.{◌≡◌, sym, ap, ◌∙◌}
 use mathlib.Core.Bool.{Bool, not, ◌&&◌}
 use native.Mathlib.Omega.{arith}
 use lib.ListN.{length}
-use borrow.Author.Tests.{not_true, not_false}
+use borrow.Author.Tests.{not-true, not-false}
 use borrow.Author.Rules.{rules}
 use Rattle.rules.specs.Sheet.{Sheet, sheet_of}
 use Rattle.rules.specs.Palette.{palette_of}
@@ -14,52 +14,38 @@ use Rattle.outline.proofs.Drawn.{drew_padded, drew_plain}
 use Rattle.outline.proofs.outline_sheet.Statement.{statement}
 use Rattle.outline.proofs.outline_sheet.Tie as tie
 
-abbrev start : tie.After-touches_edge-touched → tie.Start
-start c = c.before.before.before.before
-
 abbrev sheet : tie.After-touches_edge-touched → Sheet
-sheet c = let s = (start c).args in sheet_of s.cells-1.now s.size.h s.size.w
-
-abbrev entered : tie.After-pads → tie.After-touches_edge-touched
-entered c = c.before.before
+sheet c = let s = c.args in sheet_of s.cells.now s.size.h s.size.w
 
 -- whether padding applies
-padding : (c : tie.After-pads) → c.pads.result ≡ pads (start (entered c)).args.how (sheet (entered c))
+padding : (c : tie.After-pads) → c.pads.result ≡ pads c.args.how (sheet c.before.before)
 unfolding pads
 padding c =
-    let how = (start (entered c)).args.how in
-    c.pads.ensures ∙ ap (λ (t : Bool). how.allow_pad && asked how.outline && t) (entered c).touches_edge-touched.ensures
+    let how = c.args.how in
+    c.pads.ensures ∙ ap (λ (t : Bool). how.allow_pad && asked how.outline && t) c.touches_edge-touched.ensures
 
 returns : tie.Need-returns-then-not-pads
 returns c =
-    let d = c.before.before.before.before.before in
-    let t = d.before.before.before.before in
-    let e = entered t.before in
-    let s = (start e).args in
-    drew_plain _ s.how (palette_of s.palette-1.now s.k) s.cells-1.now s.size.h s.size.w (ap (λ (b : Bool). b && not s.how.allow_pad) e.touches_edge-touched.ensures)
-    (sym (padding t.before) ∙ not_true t.before.pads.result t.if-not-pads.true) d.draw.ensures
+    let s = c.args in
+    drew_plain _ s.how (palette_of s.palette.now s.k) s.cells.now s.size.h s.size.w (ap (λ (b : Bool). b && not s.how.allow_pad) c.touches_edge-touched.ensures)
+    (sym (padding c.before.before.before.before.before.before.before.before.before.before) ∙ not-true c.pads.result c.if-not-pads.true) c.draw.ensures
 
 returns-2 : tie.Need-returns
 returns-2 c =
-    let d = c.before.before.before.before.before in
-    let a = d.before.before.before.before.before in
-    let t = a.before.before in
-    let e = entered t.before in
-    let s = (start e).args in
-    drew_padded _ s.how (palette_of s.palette-1.now s.k) s.cells-1.now s.size.h s.size.w (ap (λ (b : Bool). b && not s.how.allow_pad) e.touches_edge-touched.ensures)
-    (sym (padding t.before) ∙ not_false t.before.pads.result t.if-not-pads.false) _ a.pad.ensures d.draw-2.ensures
+    let s = c.args in
+    drew_padded _ s.how (palette_of s.palette.now s.k) s.cells.now s.size.h s.size.w (ap (λ (b : Bool). b && not s.how.allow_pad) c.touches_edge-touched.ensures)
+    (sym (padding c.before.before.before.before.before.before.before.before.before.before.before.before.before) ∙ not-false c.pads.result c.if-not-pads.false) _ c.pad.ensures c.draw-2.ensures
 
 touches-edge-requires : tie.Need-touches_edge-touched-requires
-touches-edge-requires c κs = let s = c.before.before.before in seated _ s.args.cells.now s.requires.0
+touches-edge-requires c κs = seated _ c.args.cells.now c.requires.0
 
 pads-requires : tie.Need-pads-requires
 pads-requires c κs = search rules
 
 draw-requires : tie.Need-draw-requires
 draw-requires c κs =
-    let s = start (entered c.before.before.before.before) in
-    let n = room_plain _ s.requires.0 in
-    (seated _ s.args.cells.now s.requires.0, (s.requires.1.0, s.requires.1.1, n.1))
+    let n = room_plain _ c.requires.0 in
+    (seated _ c.args.cells.now c.requires.0, (c.requires.1.0, c.requires.1.1, n.1))
 
 same_length : tie.Need-shape_of-cells-then-not-pads
 same_length c = search rules
@@ -70,29 +56,22 @@ same-length-2 c = search rules
 same-length-3 : tie.Need-shape_of-work-then-not-pads
 same-length-3 c = search rules
 
--- the padded sheet has its room
-abbrev begun : tie.Else-not-pads → tie.Start
-begun c = start (entered c.before)
-
-roomy : (c : tie.Else-not-pads) → let s = (begun c).args in ((s.size.h + 2) * (s.size.w + 2) ≤ length s.cells-1.now) × ((s.size.h + 2) * (s.size.w + 2) ≤ length s.work-1.now)
-roomy c = room_padded _ (begun c).requires.0 (sym (padding c.before) ∙ not_false c.before.pads.result c.if-not-pads.false)
+roomy : (c : tie.Else-not-pads) → let s = c.args in ((s.size.h + 2) * (s.size.w + 2) ≤ length s.cells.now) × ((s.size.h + 2) * (s.size.w + 2) ≤ length s.work.now)
+roomy c = room_padded _ c.requires.0 (sym (padding c.before) ∙ not-false c.pads.result c.if-not-pads.false)
 
 pad-requires : tie.Need-pad-requires
-pad-requires c κs = let s = begun c.before in (s.requires.0.high, s.requires.0.wide, (roomy c.before).0)
+pad-requires c κs = (c.requires.0.high, c.requires.0.wide, (roomy c.before).0)
 
 add-t25 : tie.Need-overflow_add-padded
-add-t25 c = record { fits = omega (arith, (begun c.before.before.before).requires.0.high) }
+add-t25 c = record { fits = omega (arith, c.requires.0.high) }
 
 add-t26 : tie.Need-overflow_add-padded-2
-add-t26 c = record { fits = omega (arith, (begun c.before.before.before).requires.0.wide) }
+add-t26 c = record { fits = omega (arith, c.requires.0.wide) }
 
 draw-requires-2 : tie.Need-draw-requires-2
 draw-requires-2 c κs =
-    let a = c.before.before.before.before in
-    let t = a.before.before in
-    let s = begun t in
-    let n = roomy t in
-    (record { high = omega (arith, s.requires.0.high); wide = omega (arith, s.requires.0.wide); room = omega (arith, n.0, a.pad.auto.0) }, (s.requires.1.0, s.requires.1.1, n.1))
+    let n = roomy c.before.before.before.before.before.before in
+    (record { high = omega (arith, c.requires.0.high); wide = omega (arith, c.requires.0.wide); room = omega (arith, n.0, c.pad.auto.cells) }, (c.requires.1.0, c.requires.1.1, n.1))
 
 same-length-4 : tie.Need-shape_of-cells
 same-length-4 c = search rules

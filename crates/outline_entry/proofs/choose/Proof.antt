@@ -13,11 +13,8 @@ use Rattle.outline_entry.proofs.Choosing.{chose_fixed, chose_same, chose_append,
 use Rattle.outline_entry.proofs.choose.Statement.{statement}
 use Rattle.outline_entry.proofs.choose.Tie as tie
 
-abbrev start : tie.After-first_same → tie.Start
-start c = c.before.before.before.before.before
-
-answer : (c : tie.After-first_same) → found (first_where (λ i. same_rgb8 (lab_to_rgb8 (colour (palette_of (start c).args.palette.now (start c).args.k) i)) (lab_to_rgb8 (start c).args.c)) (start c).args.k) ≡ c.first_same.result
-answer c = sym (c.first_same.ensures ∙ ap (λ (x : Rgb8). found (first_where (λ i. same_rgb8 (lab_to_rgb8 (colour (palette_of (start c).args.palette.now (start c).args.k) i)) x) (start c).args.k)) c.before.lab_to_rgb8_one.ensures)
+answer : (c : tie.After-first_same) → found (first_where (λ i. same_rgb8 (lab_to_rgb8 (colour (palette_of c.args.palette.now c.args.k) i)) (lab_to_rgb8 c.args.c)) c.args.k) ≡ c.first_same.result
+answer c = sym (c.first_same.ensures ∙ ap (λ (x : Rgb8). found (first_where (λ i. same_rgb8 (lab_to_rgb8 (colour (palette_of c.args.palette.now c.args.k) i)) x) c.args.k)) c.lab_to_rgb8_one.ensures)
 
 nearest-entry-requires : tie.Need-nearest_entry-i-requires
 nearest-entry-requires c κs = search rules
@@ -26,7 +23,7 @@ same_length : tie.Need-shape_of-palette-then-fixed
 same_length c = search rules
 
 returns : tie.Need-returns-then-fixed
-returns c = rw c.before.before.if-fixed.true (chose_fixed _ _ _ c.nearest_entry-i.ensures)
+returns c = rw c.if-fixed.true (chose_fixed _ _ _ c.nearest_entry-i.ensures)
 
 lab-to-rgb8-one-requires : tie.Need-lab_to_rgb8_one-requires
 lab-to-rgb8-one-requires c κs = search rules
@@ -42,8 +39,7 @@ same-length-2 c = search rules
 
 returns-2 : tie.Need-returns-in-At
 returns-2 c =
-    let f = c.before.before.before in
-    rw f.before.before.before.if-fixed.false (chose_same _ _ _ (answer f ∙ c.before.i-1.given.1))
+    rw c.if-fixed.false (chose_same _ _ _ (answer c.before ∙ c.in-At.is))
 
 enum_told : tie.Need-enum_told-1
 enum_told c = search rules
@@ -59,30 +55,21 @@ same-length-3 c = search rules
 
 returns-3 : tie.Need-returns-then-k-lt256
 returns-3 c =
-    let r = c.before.before in
-    let n = r.before.before.before in
-    let f = n.before.before in
-    rw f.before.before.before.if-fixed.false (chose_append _ _ (answer f ∙ n.enum_told-1.given.1) _ r.before.before.if-k-lt256.true r.recolour.ensures)
+    rw c.if-fixed.false (chose_append _ _ (answer c.before.before.before.before.before.before ∙ c.in_default.is) _ c.if-k-lt256.true c.recolour.ensures)
 
 nearest-entry-requires-2 : tie.Need-nearest_entry-i-requires-2
 nearest-entry-requires-2 c κs = search rules
 
 recolour-requires-2 : tie.Need-recolour-requires-2
 recolour-requires-2 c κs =
-    let m = c.before in
-    let s = start m.before.before.before.before.before in
-    omega (arith, m.nearest_entry-i-2.ensures, nearest-below (λ i. true) (palette_of s.args.palette.now s.args.k) s.args.c s.requires.1)
+    omega (arith, c.nearest_entry-i-2.ensures, nearest-below (λ i. true) (palette_of c.args.palette.now c.args.k) c.args.c c.requires.1)
 
 same-length-4 : tie.Need-shape_of-palette
 same-length-4 c = search rules
 
 returns-4 : tie.Need-returns
 returns-4 c =
-    let r = c.before.before in
-    let m = r.before.before in
-    let n = m.before.before.before in
-    let f = n.before.before in
-    rw f.before.before.before.if-fixed.false (chose_replace _ _ (answer f ∙ n.enum_told-1.given.1) _ _ m.before.before.if-k-lt256.false m.nearest_entry-i-2.ensures r.recolour-2.ensures)
+    rw c.if-fixed.false (chose_replace _ _ (answer c.before.before.before.before.before.before.before ∙ c.in_default.is) _ _ c.if-k-lt256.false c.nearest_entry-i-2.ensures c.recolour-2.ensures)
 
 pub choose_spec : {M : Type 1} → statement M
 choose_spec =

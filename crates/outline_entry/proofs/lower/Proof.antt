@@ -13,15 +13,15 @@ enum-known-best c = search rules
 
 returns : tie.Need-returns-in-Nothing
 unfolding lowered
-returns c = rw c.enum_told-1.given.1
+returns c = rw c.in-Nothing.is
 
 returns-2 : tie.Need-returns-then-x-y
 unfolding lowered
-returns-2 c = rw (c.before.before.best-1.given.1, c.if-x-y.true)
+returns-2 c = rw (c.in-At.is, c.if-x-y.true)
 
 returns-3 : tie.Need-returns-else-x-y
 unfolding lowered
-returns-3 c = rw (c.before.before.best-1.given.1, c.if-x-y.false)
+returns-3 c = rw (c.in-At.is, c.if-x-y.false)
 
 pub lower_spec : {M : Type 1} → statement M
 lower_spec = tie.close (tie.spec

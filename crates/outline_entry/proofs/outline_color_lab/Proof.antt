@@ -24,8 +24,7 @@ darkest-requires c κs = search rules
 
 entry-requires-2 : tie.Need-entry-requires-in-Auto
 entry-requires-2 c κs =
-    let s = c.before.before.before.before.before in
-    omega (arith, c.darkest-i.ensures, darkest-below (palette_of s.args.palette.now s.args.k) s.requires.1)
+    omega (arith, c.darkest-i.ensures, darkest-below (palette_of c.args.palette.now c.args.k) c.requires.1)
 
 darkened-requires : tie.Need-darkened-requires
 darkened-requires c κs = search rules
@@ -38,21 +37,18 @@ rgb8-to-lab-one-requires c κs = search rules
 
 returns : tie.Need-returns-in-None
 unfolding line_colour colour
-returns c = rw c.before.enum_told-1.given.1 c.entry.ensures
+returns c = rw c.in-None.is c.entry.ensures
 
 returns-2 : tie.Need-returns-in-Auto
 unfolding line_colour colour
 returns-2 c =
-    let d = c.before.before in
-    let o = d.before.before in
-    let s = o.before.before.before in
-    rw o.outline-1.given.1
+    rw c.in-Auto.is
     (c.darkened.ensures
-    ∙ ap (λ (x : Lab). darkened o.outline-1.given.0.0 x) (c.before.entry-in-Auto.ensures ∙ ap (λ (i : ℕ). colour (palette_of s.args.palette.now s.args.k) i) d.darkest-i.ensures))
+    ∙ ap (λ (x : Lab). darkened c.in-Auto.darken x) (c.entry-in-Auto.ensures ∙ ap (λ (i : ℕ). colour (palette_of c.args.palette.now c.args.k) i) c.darkest-i.ensures))
 
 returns-3 : tie.Need-returns-in-Rgb
 unfolding line_colour
-returns-3 c = rw c.before.before.outline-in-Rgb-1.given.1 c.rgb8_to_lab_one.ensures
+returns-3 c = rw c.in-Rgb.is c.rgb8_to_lab_one.ensures
 
 pub outline_color_lab_spec : {M : Type 1} → statement M
 outline_color_lab_spec =

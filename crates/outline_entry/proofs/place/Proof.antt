@@ -13,11 +13,11 @@ enum-known-best c = search rules
 
 returns : tie.Need-returns-in-Nothing
 unfolding placed
-returns c = rw c.enum_told-1.given.1
+returns c = rw c.in-Nothing.is
 
 returns-2 : tie.Need-returns-in-At
 unfolding placed
-returns-2 c = rw c.before.best-1.given.1
+returns-2 c = rw c.in-At.is
 
 pub place_spec : {M : Type 1} → statement M
 place_spec = tie.close (tie.spec

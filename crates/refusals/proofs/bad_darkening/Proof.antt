@@ -23,15 +23,15 @@ enum-told-2 c = search rules
 
 returns : tie.Need-returns-in-None
 unfolding bad_darkening
-returns c = rw c.enum_told-1.given.1
+returns c = rw c.in-None.is
 
 returns-2 : tie.Need-returns-in-Auto
 unfolding bad_darkening between decimal round of_bits
-returns-2 c = rw c.before.before.outline-1.given.1 (ap not c.between.ensures)
+returns-2 c = rw c.in-Auto.is (ap not c.between.ensures)
 
 returns-3 : tie.Need-returns-in-Rgb
 unfolding bad_darkening
-returns-3 c = rw c.enum_told-in-Rgb-1.given.1
+returns-3 c = rw c.in-Rgb.is
 
 pub bad_darkening_spec : {M : Type 1} → statement M
 bad_darkening_spec =

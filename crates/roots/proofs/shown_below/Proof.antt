@@ -11,8 +11,8 @@ use Rattle.roots.proofs.shown_below.Statement.{statement}
 use Rattle.roots.proofs.shown_below.Tie as tie
 
 -- the digits are taken as they are, or no more than 3 of them
-shift : (c : tie.Joined-j-gt3) → (c.if-j-gt3.j ≤ 3) × (c.if-j-gt3.j + (c.before.before.before.args.x / 2 ^ 52 + 1021) ≤ field ((c.before.before.before.args.y - 1) / 2 ^ 27) * 2)
-shift c = ⊎_elim (λ w. (omega (arith, w.1), omega (arith, w.1, w.0.taken, c.before.if-d-e.false))) (λ w. (omega (arith, w.1, w.0.left), omega (arith, w.1, c.before.if-d-e.false))) c.if-j-gt3.branch-raw
+shift : (c : tie.Joined-j-gt3) → (c.if-j-gt3.j ≤ 3) × (c.if-j-gt3.j + (c.args.x / 2 ^ 52 + 1021) ≤ field ((c.args.y - 1) / 2 ^ 27) * 2)
+shift c = ⊎_elim (λ w. (omega (arith, w.j-is), omega (arith, w.j-is, w.if-j-gt3.true, c.if-d-e.false))) (λ w. (omega (arith, w.j-is, w.if-j-gt3.false), omega (arith, w.j-is, c.if-d-e.false))) c.if-j-gt3.branch-raw
 
 returns : tie.Need-returns-then-y-eq0
 returns c e = absurd (true≢false (sym e))
@@ -23,8 +23,7 @@ returns-2 c e = absurd (true≢false (sym e))
 returns-3 : tie.Need-returns
 returns-3 c e =
     let s = shift c.before in
-    let a = c.before.before.before.before in
-    shown a.args.x a.args.y c.before.if-j-gt3.j (omega (arith, c.before.before.before.if-y-eq0.false)) s.0 s.1 (leb→le _ _ (subst T (sym e) tt))
+    shown c.args.x c.args.y c.if-j-gt3.j (omega (arith, c.if-y-eq0.false)) s.0 s.1 (leb→le _ _ (subst T (sym e) tt))
 
 sub-top : tie.Need-overflow_sub-top
 sub-top c = omega (arith, c.if-y-eq0.false)
@@ -42,7 +41,7 @@ add-result : tie.Need-overflow_add-result
 add-result c = search rules
 
 mul-result : tie.Need-overflow_mul-result
-mul-result c = let a = c.before.before.before.args in omega (arith, square_fits a.x a.y c.if-j-gt3.j (omega (arith, c.before.before.if-y-eq0.false)))
+mul-result c = let a = c.args in omega (arith, square_fits a.x a.y c.if-j-gt3.j (omega (arith, c.if-y-eq0.false)))
 
 shl-result : tie.Need-overflow_shl-result
 shl-result c = omega (arith, (shift c.before).0)

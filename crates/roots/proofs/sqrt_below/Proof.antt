@@ -18,27 +18,25 @@ double : (x : Float) → T (fits binary64 x) → to_bits binary64 x < limit → 
 double x f l = record { held = f; sign = small_sign x f l }
 
 returns : tie.Need-returns-then-x
-returns c = root_of_nan c.before.args.x c.before.args.y (is_nan_lem c.before.args.x c.if-x.true)
+returns c = root_of_nan c.args.x c.args.y (is_nan_lem c.args.x c.if-x.true)
 
 returns-2 : tie.Need-returns-then-y
-returns-2 c = let s = c.before.before in below_nan (sqrt_of s.args.x) s.args.y (is_nan_lem s.args.y c.if-y.true)
+returns-2 c = below_nan (sqrt_of c.args.x) c.args.y (is_nan_lem c.args.y c.if-y.true)
 
 returns-3 : tie.Need-returns-then-shown_below
 returns-3 c =
-    let p = c.before.before in
-    let s = p.before.before.before.before in
-    let x = s.args.x in
-    let y = s.args.y in
-    let dx = double x (subst T (sym s.well-formed.0.1) tt) p.before.if-p-lt-LIMIT.true in
-    let dy = double y (subst T (sym s.well-formed.1.0.1) tt) (ltb→lt (to_bits binary64 y) limit (subst T (sym p.if-q-lt-LIMIT.true) tt)) in
-    let z = c.before.shown_below.ensures c.if-shown_below.true in
+    let x = c.args.x in
+    let y = c.args.y in
+    let dx = double x (subst T (sym c.well_formed.0.1) tt) c.if-p-lt-LIMIT.true in
+    let dy = double y (subst T (sym c.well_formed.1.0.1) tt) c.if-q-lt-LIMIT.true in
+    let z = c.shown_below.ensures c.if-shown_below.true in
     sym (is_true (lt (sqrt_of x) y) (root_below x y (sqrt_of x) dx dy (sqrt_nearest x dx) z.0 z.1 z.2))
 
 returns-4 : tie.Need-returns
-returns-4 c = ap (λ (r : Float). lt r c.before.before.before.before.args.y) c.sqrt.ensures.equal
+returns-4 c = ap (λ (r : Float). lt r c.args.y) c.sqrt.ensures.equal
 
 float-to-bits-p : tie.Need-float_to_bits-p
-float-to-bits-p c = not_nan _ c.before.if-x.false
+float-to-bits-p c = not_nan _ c.if-x.false
 
 float-to-bits-q : tie.Need-float_to_bits-q
 float-to-bits-q c = not_nan _ c.if-y.false

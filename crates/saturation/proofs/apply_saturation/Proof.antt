@@ -18,9 +18,6 @@ use Rattle.saturation.proofs.Rows.{refused_palette, refused_products, not_refuse
 use Rattle.saturation.proofs.apply_saturation.Statement.{statement}
 use Rattle.saturation.proofs.apply_saturation.Tie as tie
 
-abbrev start : tie.After-palette_refusal → tie.Start
-start c = c.before.before.before.before
-
 abbrev palette : tie.Start → Palette
 palette s = palette_of s.args.palette.now s.args.k
 
@@ -31,9 +28,9 @@ palette-refusal-requires : tie.Need-palette_refusal-requires
 palette-refusal-requires c κs = search rules
 
 -- the answer of the rows, with beta for their setting
-told : (c : tie.After-palette_refusal) → let s = start c in c.palette_refusal.result ≡ filling (refusal (palette_rows (palette s) (not (between 0 16 s.args.beta))))
+told : (c : tie.After-palette_refusal) → c.palette_refusal.result ≡ filling (refusal (palette_rows (palette c.before.before.before) (not (between 0 16 c.args.beta))))
 unfolding between decimal round of_bits
-told c = rw c.before.before.between-bad.ensures at c.palette_refusal.ensures
+told c = rw c.between-bad.ensures at c.palette_refusal.ensures
 
 enum-known-row : tie.Need-enum_known-row
 enum-known-row c = search rules
@@ -44,22 +41,21 @@ same_length c = search rules
 returns : tie.Need-returns-in-Refused
 unfolding saturation_answer saturation_palette
 returns c =
-    let r = c.before.before.before in
-    let e = refused_palette (palette (start r)) (start r).args.beta (filling_some (told r) c.before.row-1.given.1) in
+    let e = refused_palette (palette c.before.before.before.before) c.args.beta (filling_some (told c.before) c.in-Refused.is) in
     (some_filling e, some_unless _ _ e)
 
 enum_told : tie.Need-enum_told-1
 enum_told c = search rules
 
 -- the rows refuse nothing
-clear : (c : tie.In_default) → let s = start c.before.before in refusal (palette_rows (palette s) (not (between 0 16 s.args.beta))) ≡ none
-clear c = filling_none (told c.before.before) c.enum_told-1.given.1
+clear : (c : tie.In_default) → refusal (palette_rows (palette c.before.before.before.before) (not (between 0 16 c.args.beta))) ≡ none
+clear c = filling_none (told c.before) c.in_default.is
 
-usable : (c : tie.In_default) → let s = start c.before.before in Usable (palette s) (not (between 0 16 s.args.beta))
+usable : (c : tie.In_default) → Usable (palette c.before.before.before.before) (not (between 0 16 c.args.beta))
 usable c = (palette_room [] (clear c)).0
 
 scaled-too-far-requires : tie.Need-scaled_too_far-requires
-scaled-too-far-requires c κs = let u = usable c.before in (omega (arith, u.few, u.whole), u.few, u.ranged)
+scaled-too-far-requires c κs = let u = usable c in (omega (arith, u.few, u.whole), u.few, u.ranged)
 
 same-length-2 : tie.Need-shape_of-palette-then-scaled_too_far
 same-length-2 c = search rules
@@ -67,13 +63,11 @@ same-length-2 c = search rules
 returns-2 : tie.Need-returns-then-scaled_too_far
 unfolding saturation_answer saturation_palette
 returns-2 c =
-    let t = c.before.before.before in
-    let s = start t.before.before in
-    let e = refused_products (palette s) s.args.beta (clear t) (sym c.before.scaled_too_far.ensures ∙ c.if-scaled_too_far.true) in
+    let e = refused_products (palette c.before.before.before.before.before.before) c.args.beta (clear c.before.before) (sym c.scaled_too_far.ensures ∙ c.if-scaled_too_far.true) in
     (some_filling e, some_unless _ _ e)
 
 saturate-requires : tie.Need-saturate-requires
-saturate-requires c κs = let u = usable c.before.before.before.before in (omega (arith, u.few, u.whole), u.few)
+saturate-requires c κs = let u = usable c.before.before.before in (omega (arith, u.few, u.whole), u.few)
 
 same-length-3 : tie.Need-shape_of-palette
 same-length-3 c = search rules
@@ -81,11 +75,8 @@ same-length-3 c = search rules
 returns-3 : tie.Need-returns
 unfolding saturation_answer saturation_palette
 returns-3 c =
-    let g = c.before.before.before.before in
-    let t = g.before.before.before in
-    let s = start t.before.before in
-    let e = not_refused (palette s) s.args.beta (clear t) (sym g.before.scaled_too_far.ensures ∙ g.if-scaled_too_far.false) in
-    (none_filling e, none_unless _ _ e c.before.before.saturate.ensures)
+    let e = not_refused (palette c.before.before.before.before.before.before.before.before.before.before) c.args.beta (clear c.before.before.before.before.before.before) (sym c.scaled_too_far.ensures ∙ c.if-scaled_too_far.false) in
+    (none_filling e, none_unless _ _ e c.saturate.ensures)
 
 pub apply_saturation_spec : {M : Type 1} → statement M
 apply_saturation_spec =

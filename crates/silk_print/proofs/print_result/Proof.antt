@@ -1,7 +1,7 @@
 -- `print_result` meets its contract. Assumes nothing.
 use borrow.Author.Rules.{rules}
 use mathlib.Core.Path.{sym, ◌∙◌}
-use borrow.Author.Tests.{not_false}
+use borrow.Author.Tests.{not-false}
 use Rattle.base.proofs.Counting.{not_true}
 use Rattle.silk_print.specs.Print.{result_fits}
 use Rattle.silk_print.proofs.Outcome.{printed_no, printed_yes, fits_printable}
@@ -17,7 +17,7 @@ returns c = printed_no (sym c.before.lengths_fit.ensures ∙ not_true c.if-not-l
 
 put-result-requires : tie.Need-put_result-requires
 unfolding result_fits
-put-result-requires c κs = fits_printable _ _ _ _ (sym c.before.before.lengths_fit.ensures ∙ not_false _ c.before.if-not-lengths_fit.false)
+put-result-requires c κs = fits_printable _ _ _ _ (sym c.before.before.lengths_fit.ensures ∙ not-false _ c.before.if-not-lengths_fit.false)
 
 same_length : tie.Need-shape_of-out
 same_length c = search rules
@@ -27,7 +27,7 @@ unfolding result_fits
 returns-2 c =
     let result = c.before.before in
     let other1 = result.before.before in
-    printed_yes (sym other1.before.lengths_fit.ensures ∙ not_false _ other1.if-not-lengths_fit.false) result.put_result.ensures
+    printed_yes (sym other1.before.lengths_fit.ensures ∙ not-false _ other1.if-not-lengths_fit.false) result.put_result.ensures
 
 pub print_result_spec : {M : Type 1} → statement M
 print_result_spec = tie.close (tie.spec

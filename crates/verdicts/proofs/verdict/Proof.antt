@@ -4,7 +4,7 @@ use mathlib.Core.Path.{◌≡◌, sym, ap, ◌∙◌}
 use mathlib.Core.List.{List}
 use native.Mathlib.Omega.{arith}
 use borrow.Author.Rules.{rules}
-use borrow.Author.Tests.{not_true}
+use borrow.Author.Tests.{not-true}
 use lib.ListN.{length, get_or}
 use Rattle.grid.specs.Planes.{plane, end_of}
 use Rattle.grid.proofs.Planes.{plane_read}
@@ -20,24 +20,6 @@ use Rattle.verdicts.proofs.verdict.Statement.{statement}
 use Rattle.verdicts.proofs.verdict.Tie as tie
 
 -- ---- places
-
-abbrev entered : tie.After-slice_known-2-1 → tie.Start
-entered c = c.before.before.before.before
-
-abbrev start : tie.After-region_span-span → tie.Start
-start c = entered c.before.before.before
-
-abbrev found : tie.Else-work-n-ne0-2 → tie.After-region_span-span
-found c = c.before.before.before.before
-
-abbrev asked : tie.Else-not-large_around → tie.Else-work-n-ne0-2
-asked c = c.before.before.before
-
-abbrev told : tie.After-agreed-voted → tie.Else-not-large_around
-told c = c.before.before.before
-
-abbrev polled : tie.After-poll → tie.Else-voted-ne0
-polled c = c.before.before.before
 
 -- ---- the sizes
 
@@ -68,17 +50,17 @@ mul-if1-2 : tie.Need-offset_bounds-work-n
 mul-if1-2 c = omega (arith, sizes c.before.before.before)
 
 slice-read-if1 : tie.Need-bounds-work-n
-slice-read-if1 c = omega (arith, sizes (entered c))
+slice-read-if1 c = omega (arith, sizes c.before.before.before.before)
 
 -- what is read is the group's number
 number_is : (s : tie.Start) → get_or (work s) (6 * n s + s.args.at) 0 ≡ plane (n s) 6 (work s) s.args.at
 number_is s = plane_read (n s) 6 s.args.at (6 * n s + s.args.at) (work s) (omega arith)
 
 returns : tie.Need-returns-then-work-n-ne0
-returns c = let s = entered c.before in judged-done s.args.by s.args.palette.now s.requires.0.0 s.requires.1.1.0 s.requires.0.1 (λ e. c.if-work-n-ne0.true (number_is s ∙ e))
+returns c = judged-done c.args.by c.args.palette.now c.requires.0.0 c.requires.1.1.0 c.requires.0.1 (λ e. c.if-work-n-ne0.true (number_is c.before.before.before.before.before ∙ e))
 
 region-span-requires : tie.Need-region_span-span-requires
-region-span-requires c κs = let s = entered c.before.before in let z = sizes s in (z.room, z.few, s.requires.0.1)
+region-span-requires c κs = let z = sizes c.before.before.before.before.before in (z.room, z.few, c.requires.0.1)
 
 -- ---- the places of the group
 
@@ -87,34 +69,33 @@ span c = c.region_span-span.result
 
 -- the first of them, as it is read
 abbrev first : tie.After-region_span-span → ℕ
-first c = get_or (work (start c)) (2 * n (start c) + (span c).from) 0
+first c = get_or (work c.before.before.before.before.before.before) (2 * n c.before.before.before.before.before.before + (span c).from) 0
 
 -- and as it is
 abbrev lead : tie.Start → ℕ
 lead s = plane (n s) 2 (work s) (end_of (n s) (work s) s.args.at)
 
 pub record Run (c : tie.After-region_span-span) : Type 0 where
-  pub sizes : Sizes (start c)
-  pub stretch : Stretch (n (start c)) (work (start c)) (span c)
+  pub sizes : Sizes c.before.before.before.before.before.before
+  pub stretch : Stretch (n c.before.before.before.before.before.before) (work c.before.before.before.before.before.before) (span c)
   pub some : (span c).from < (span c).to
-  pub end : (span c).to ≤ n (start c)
-  pub is : first c ≡ lead (start c)
-  pub first : first c < n (start c)
+  pub end : (span c).to ≤ n c.before.before.before.before.before.before
+  pub is : first c ≡ lead c.before.before.before.before.before.before
+  pub first : first c < n c.before.before.before.before.before.before
 
 run : (c : tie.After-region_span-span) → Run c
 run c =
-    let s = start c in
-    let g = s.requires.0.1 in
+    let g = c.requires.0.1 in
     let ends = c.region_span-span.ensures in
-    let e = plane_read (n s) 2 (span c).from (2 * n s + (span c).from) (work s) (omega arith) ∙ ap (plane (n s) 2 (work s)) ends.0 in
-    let t : Stretch (n s) (work s) (span c) = group-stretch g ends in
+    let e = plane_read (n c.before.before.before.before.before.before) 2 (span c).from (2 * n c.before.before.before.before.before.before + (span c).from) (work c.before.before.before.before.before.before) (omega arith) ∙ ap (plane (n c.before.before.before.before.before.before) 2 (work c.before.before.before.before.before.before)) ends.0 in
+    let t : Stretch (n c.before.before.before.before.before.before) (work c.before.before.before.before.before.before) (span c) = group-stretch g ends in
     record {
-      sizes = sizes s;
+      sizes = sizes c.before.before.before.before.before.before;
       stretch = t;
       some = omega (arith, ends.0, ends.1, g.some);
       end = t.end;
       is = e;
-      first = rw e (g.places (end_of (n s) (work s) s.args.at) (omega arith) g.some).0;
+      first = rw e (g.places (end_of (n c.before.before.before.before.before.before) (work c.before.before.before.before.before.before) c.args.at) (omega arith) g.some).0;
     }
 
 mul-first : tie.Need-overflow_mul-first
@@ -148,113 +129,98 @@ same_length : tie.Need-shape_of-work-then-work-n-ne0-2
 same_length c = search rules
 
 -- what is read is whether the first place is large
-large_is : (c : tie.After-region_span-span) → let s = start c in get_or (work s) (5 * n s + first c) 0 ≡ plane (n s) 5 (work s) (lead s)
-large_is c = let s = start c in plane_read (n s) 5 (first c) (5 * n s + first c) (work s) (omega arith) ∙ ap (plane (n s) 5 (work s)) (run c).is
+large_is : (c : tie.After-region_span-span) → get_or (work c.before.before.before.before.before.before) (5 * n c.before.before.before.before.before.before + first c) 0 ≡ plane (n c.before.before.before.before.before.before) 5 (work c.before.before.before.before.before.before) (lead c.before.before.before.before.before.before)
+large_is c = plane_read (n c.before.before.before.before.before.before) 5 (first c) (5 * n c.before.before.before.before.before.before + first c) (work c.before.before.before.before.before.before) (omega arith) ∙ ap (plane (n c.before.before.before.before.before.before) 5 (work c.before.before.before.before.before.before)) (run c).is
 
 returns-2 : tie.Need-returns-then-work-n-ne0-2
 returns-2 c =
-    let e = c.before.before.before.before in
-    let s = start e in
-    judged_big s.args.by s.args.palette.now s.requires.0.0 s.requires.1.1.0 s.requires.0.1 (λ z. c.if-work-n-ne0-2.true (large_is e ∙ z))
+    judged_big c.args.by c.args.palette.now c.requires.0.0 c.requires.1.1.0 c.requires.0.1 (λ z. c.if-work-n-ne0-2.true (large_is c.before.before.before.before ∙ z))
 
 -- the group has no number, and its first place is not large
 pub record Open (c : tie.Else-work-n-ne0-2) : Type 0 where
-  pub free : let s = start (found c) in plane (n s) 6 (work s) s.args.at ≡ 0
-  pub little : let s = start (found c) in plane (n s) 5 (work s) (lead s) ≡ 0
-  pub fresh : let s = start (found c) in (q : ℕ) → q < n s → plane (n s) 5 (work s) q ≡ s.args.at + 2 → ⊥
+  pub free : plane (n c.before.before.before.before.before.before.before.before.before.before) 6 (work c.before.before.before.before.before.before.before.before.before.before) c.args.at ≡ 0
+  pub little : plane (n c.before.before.before.before.before.before.before.before.before.before) 5 (work c.before.before.before.before.before.before.before.before.before.before) (lead c.before.before.before.before.before.before.before.before.before.before) ≡ 0
+  pub fresh : (q : ℕ) → q < n c.before.before.before.before.before.before.before.before.before.before → plane (n c.before.before.before.before.before.before.before.before.before.before) 5 (work c.before.before.before.before.before.before.before.before.before.before) q ≡ c.args.at + 2 → ⊥
 
 waiting : (c : tie.Else-work-n-ne0-2) → Open c
 waiting c =
-    let e = found c in
-    let s = start e in
-    let z = sym (number_is s) ∙ e.before.before.if-work-n-ne0.false in
-    record { free = z; little = sym (large_is e) ∙ c.if-work-n-ne0-2.false; fresh = s.requires.1.1.1 z }
+    let z = sym (number_is c.before.before.before.before.before.before.before.before.before.before) ∙ c.if-work-n-ne0.false in
+    record { free = z; little = sym (large_is c.before.before.before.before) ∙ c.if-work-n-ne0-2.false; fresh = c.requires.1.1.1 z }
 
 large-around-requires : tie.Need-large_around-requires
-large-around-requires c κs = let e = found c.before in let r = run e in (r.sizes.room, r.sizes.few, (start e).requires.0.0.cols, r.stretch)
+large-around-requires c κs = let r = run c.before.before.before.before in (r.sizes.room, r.sizes.few, c.requires.0.0.cols, r.stretch)
 
 same-length-2 : tie.Need-shape_of-work-then-not-large_around
 same-length-2 c = search rules
 
 returns-3 : tie.Need-returns-then-not-large_around
 returns-3 c =
-    let v = c.before in
-    let o = v.before.before in
-    let e = found o in
-    let s = start e in
-    let u = waiting o in
-    judged_silent s.args.by s.args.palette.now s.requires.0.0 s.requires.1.1.0 s.requires.0.1 (span e) e.region_span-span.ensures u.free u.little s.requires.1.0.0 u.fresh (v.large_around.ensures (not_true v.large_around.result c.if-not-large_around.true))
+    let u = waiting c.before.before in
+    judged_silent c.args.by c.args.palette.now c.requires.0.0 c.requires.1.1.0 c.requires.0.1 (span c.before.before.before.before.before.before) c.region_span-span.ensures u.free u.little c.requires.1.0.0 u.fresh (c.large_around.ensures (not-true c.large_around.result c.if-not-large_around.true))
 
 -- the first place's paint, as it is read
 abbrev own : tie.After-region_span-span → ℕ
-own c = get_or (work (start c)) (first c) 0
+own c = get_or (work c.before.before.before.before.before.before) (first c) 0
 
 pub record Paint (c : tie.After-region_span-span) : Type 0 where
-  pub is : own c ≡ plane (n (start c)) 0 (work (start c)) (lead (start c))
+  pub is : own c ≡ plane (n c.before.before.before.before.before.before) 0 (work c.before.before.before.before.before.before) (lead c.before.before.before.before.before.before)
   pub some : 1 ≤ own c
-  pub most : own c ≤ (start c).args.by.k
-  pub few : (start c).args.by.k ≤ 256
+  pub most : own c ≤ c.args.by.k
+  pub few : c.args.by.k ≤ 256
 
 paint : (c : tie.After-region_span-span) → Paint c
 paint c =
-    let s = start c in
-    let g = s.requires.0.1 in
-    let known = s.requires.1.0.0 in
-    let p = g.places (end_of (n s) (work s) s.args.at) (omega arith) g.some in
-    let e = plane_read (n s) 0 (first c) (first c) (work s) (omega arith) ∙ ap (plane (n s) 0 (work s)) (run c).is in
+    let g = c.requires.0.1 in
+    let known = c.requires.1.0.0 in
+    let p = g.places (end_of (n c.before.before.before.before.before.before) (work c.before.before.before.before.before.before) c.args.at) (omega arith) g.some in
+    let e = plane_read (n c.before.before.before.before.before.before) 0 (first c) (first c) (work c.before.before.before.before.before.before) (omega arith) ∙ ap (plane (n c.before.before.before.before.before.before) 0 (work c.before.before.before.before.before.before)) (run c).is in
     record {
       is = e;
-      some = rw e (s.requires.0.0.shown (lead s) p.0 (λ z. let x : suc s.args.at ≡ 0 = sym p.1 ∙ z in omega arith));
-      most = rw e (known.below (lead s) p.0);
+      some = rw e (c.requires.0.0.shown (lead c.before.before.before.before.before.before) p.0 (λ z. let x : suc c.args.at ≡ 0 = sym p.1 ∙ z in omega arith));
+      most = rw e (known.below (lead c.before.before.before.before.before.before) p.0);
       few = known.few;
     }
 
 mul-own : tie.Need-offset_bounds-work-first
-mul-own c = let r = run (found (asked c)) in omega (arith, r, r.sizes)
+mul-own c = let r = run c.before.before.before.before.before.before in omega (arith, r, r.sizes)
 
 slice-read-own : tie.Need-bounds-work-first
-slice-read-own c = let r = run (found (asked c.before)) in omega (arith, r, r.sizes)
+slice-read-own c = let r = run c.before.before.before.before.before.before.before in omega (arith, r, r.sizes)
 
 cast-own : tie.Need-overflow_cast-own
-cast-own c = omega (arith, paint (found (asked c.before)))
+cast-own c = omega (arith, paint c.before.before.before.before.before.before.before)
 
 sub-own : tie.Need-overflow_sub-own
-sub-own c = omega (arith, paint (found (asked c.before)))
+sub-own c = omega (arith, paint c.before.before.before.before.before.before.before)
 
 -- ---- all large neighbours have one paint
 
 agreed-requires : tie.Need-agreed-voted-requires
-agreed-requires c κs = let e = found (asked c.before.before) in ((start e).requires.0.0, (run e).stretch)
+agreed-requires c κs = (c.requires.0.0, (run c.before.before.before.before.before.before.before).stretch)
 
 cast-voted : tie.Need-overflow_cast-voted
 cast-voted c = search rules
 
-one : (c : tie.Then-voted-ne0) → let e = found (asked (told c.before)) in OnePaint (start e).args.grid (work (start e)) (span e).from (span e).to c.before.agreed-voted.result
+one : (c : tie.Then-voted-ne0) → OnePaint c.args.grid (work c.before.before.before.before.before.before.before.before.before.before.before.before.before.before.before) (span c.before.before.before.before.before.before.before.before.before).from (span c.before.before.before.before.before.before.before.before.before).to c.agreed-voted.result
 one c =
-    let e = found (asked (told c.before)) in
-    let s = start e in
-    one_paint_lem s.args.grid (work s) s.requires.0.0 (span e).from (span e).to c.before.agreed-voted.result (run e).stretch.rises c.before.agreed-voted.ensures c.if-voted-ne0.true
+    one_paint_lem c.args.grid (work c.before.before.before.before.before.before.before.before.before.before.before.before.before.before.before) c.requires.0.0 (span c.before.before.before.before.before.before.before.before.before).from (span c.before.before.before.before.before.before.before.before.before).to c.agreed-voted.result (run c.before.before.before.before.before.before.before.before.before).stretch.rises c.agreed-voted.ensures c.if-voted-ne0.true
 
 returns-4 : tie.Need-returns-then-voted-ne0
 returns-4 c =
-    let o = asked (told c.before.before) in
-    let e = found o in
-    let s = start e in
-    let u = waiting o in
-    judged_agreed s.args.by s.args.palette.now s.requires.0.0 s.requires.1.1.0 s.requires.0.1 (span e) e.region_span-span.ensures u.free u.little s.requires.1.0.0 (one c.before) (paint e).is c.only_choice.ensures
+    let u = waiting c.before.before.before.before.before.before in
+    judged_agreed c.args.by c.args.palette.now c.requires.0.0 c.requires.1.1.0 c.requires.0.1 (span c.before.before.before.before.before.before.before.before.before.before) c.region_span-span.ensures u.free u.little c.requires.1.0.0 (one c.before) (paint c.before.before.before.before.before.before.before.before.before.before).is c.only_choice.ensures
 
 -- it is that of a place
-paint_below : (c : tie.Then-voted-ne0) → c.before.agreed-voted.result ≤ (start (found (asked (told c.before)))).args.by.k
-paint_below c = let s = start (found (asked (told c.before))) in let o = one c in omega (arith, o.same o.place o.inside o.beside o.big, s.requires.1.0.0.below o.place o.inside)
+paint_below : (c : tie.Then-voted-ne0) → c.agreed-voted.result ≤ c.args.by.k
+paint_below c = let o = one c in omega (arith, o.same o.place o.inside o.beside o.big, c.requires.1.0.0.below o.place o.inside)
 
 sub-c : tie.Need-overflow_sub-c
 sub-c c = omega (arith, c.if-voted-ne0.true)
 
 only-choice-requires : tie.Need-only_choice-requires
 only-choice-requires c κs =
-    let e = found (asked (told c.before)) in
-    let p = paint e in
-    (omega (arith, p), omega (arith, paint_below c, p.few, c.if-voted-ne0.true), (start e).requires.1.0.1)
+    let p = paint c.before.before.before.before.before.before.before.before.before in
+    (omega (arith, p), omega (arith, paint_below c, p.few, c.if-voted-ne0.true), c.requires.1.0.1)
 
 same-length-3 : tie.Need-shape_of-work-then-voted-ne0
 same-length-3 c = search rules
@@ -262,38 +228,31 @@ same-length-3 c = search rules
 -- ---- else they are polled
 
 cast-mark : tie.Need-overflow_cast-mark
-cast-mark c = omega (arith, (run (found (asked (told c.before)))).sizes)
+cast-mark c = omega (arith, (run c.before.before.before.before.before.before.before.before.before).sizes)
 
 add-mark : tie.Need-overflow_add-mark
-add-mark c = omega (arith, (run (found (asked (told c.before)))).sizes)
+add-mark c = omega (arith, (run c.before.before.before.before.before.before.before.before.before).sizes)
 
 poll-requires : tie.Need-poll-requires
 poll-requires c κs =
-    let o = asked (told c.before.before.before) in
-    let e = found o in
-    let s = start e in
-    ((s.requires.0.0, (run e).stretch, omega arith), tally_new (n s) (s.args.at + 2) (work s) (waiting o).fresh)
-
-abbrev counted : tie.After-counts-2-1 → tie.After-poll
-counted c = c.before.before.before
+    ((c.requires.0.0, (run c.before.before.before.before.before.before.before.before.before.before.before).stretch, omega arith), tally_new (n c.before.before.before.before.before.before.before.before.before.before.before.before.before.before.before.before.before) (c.args.at + 2) (work c.before.before.before.before.before.before.before.before.before.before.before.before.before.before.before.before.before) (waiting c.before.before.before.before.before.before.before).fresh)
 
 choice-requires : tie.Need-choice-requires
 choice-requires c κs =
-    let e = found (asked (told (polled (counted c)).before)) in
+    let e = found (asked (told c)) in
     let p = paint e in
-    (p.few, omega (arith, p), (start e).requires.1.0.1)
+    (p.few, omega (arith, p), (start e).pre.1.0.1)
 
 same-length-4 : tie.Need-shape_of-work
 same-length-4 c = search rules
 
 returns-5 : tie.Need-returns
 returns-5 c =
-    let k = counted c.before in
-    let o = asked (told (polled k).before) in
+    let o = asked (told c) in
     let e = found o in
     let s = start e in
     let u = waiting o in
-    judged_polled s.args.by s.args.palette.now s.requires.0.0 s.requires.1.1.0 s.requires.0.1 (span e) e.region_span-span.ensures u.free u.little s.requires.1.0.0 u.fresh k.poll.ensures (paint e).is c.choice.ensures
+    judged_polled s.args.by s.args.palette.now s.pre.0.0 s.pre.1.1.0 s.pre.0.1 (span e) e.region-span.ensures u.free u.little s.pre.1.0.0 u.fresh c.poll.ensures (paint e).is c.choice.ensures
 
 pub verdict_spec : {M : Type 1} → statement M
 verdict_spec =

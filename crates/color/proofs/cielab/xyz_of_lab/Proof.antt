@@ -27,7 +27,7 @@ array-read-t22 c = search rules
 
 returns : tie.Need-returns
 unfolding xyz_of_lab white decimal round of_bits
-returns c = ⊎_elim (λ w. rw w.0.taken (cc w.1)) (λ w. rw w.0.left (cc w.1)) c.before.before.before.if-z.branch-raw
+returns c = ⊎_elim (λ w. rw w.if-z.true (cc w.z-is)) (λ w. rw w.if-z.false (cc w.z-is)) c.if-z.branch-raw
 
 pub xyz_of_lab_spec : {M : Type 1} → statement M
 xyz_of_lab_spec =

@@ -31,13 +31,10 @@ abbrev work : tie.Start → List ℕ
 work s = s.args.work.now
 
 mul-n : tie.Need-overflow_mul-n
-mul-n c = omega (arith, sheet-few c.before.before.requires.0.sheet)
-
-abbrev start : tie.After-struct_told-2-1 → tie.Start
-start c = c.before.before.before.before
+mul-n c = omega (arith, sheet-few c.requires.0.sheet)
 
 reached-requires : tie.Need-reached-requires
-reached-requires c κs = let s = start c in step_asks s.requires.1 s.requires.0.sheet
+reached-requires c κs = step_asks c.requires.1 c.requires.0.sheet
 
 enum-known-q : tie.Need-enum_known-q
 enum-known-q c = search rules
@@ -50,8 +47,8 @@ abbrev Near : tie.Start → ℕ → Type 0
 Near s q = (landing s.args.grid s.args.step ≡ some q) × (plane (n s) 0 (work s) q ≡ s.args.paint)
 
 -- what the step finds
-found : (c : tie.After-reached) → c.reached.result ≡ step_of (landing (start c.before).args.grid (start c.before).args.step)
-found c = step_finds (start c.before).requires.1 c.reached.ensures
+found : (c : tie.After-reached) → c.reached.result ≡ step_of (landing c.args.grid c.args.step)
+found c = step_finds c.requires.1 c.reached.ensures
 
 -- nothing is gained
 idle : (s : tie.Start) → ((q : ℕ) → Near s q → 0 < plane (n s) 1 (work s) q → (plane (n s) 5 (work s) q ≡ 0 → ⊥)) → Gained s.args.grid (Near s) (work s) (work s) s.args.end s.args.end
@@ -59,114 +56,92 @@ idle s f = gained_none s.args.grid s.args.end (Near s) (work s) s.requires.0 (λ
 
 returns : tie.Need-returns-in_default
 returns c =
-    let a = c.before.before in
-    idle (start a.before) (λ q z y. absurd (none_some (sym (step_off (sym (found a) ∙ c.enum_told-1.given.1)) ∙ z.0)))
+    idle c.before.before.before.before.before.before (λ q z y. absurd (none_some (sym (step_off (sym (found c.before) ∙ c.in_default.is)) ∙ z.0)))
 
 -- ---- the cell that it finds
 
-abbrev begun : tie.In-Cell-2 → tie.Start
-begun c = start c.before.before.before
+abbrev q : tie.In-Cell → ℕ
+q c = c.in-Cell.q
 
-abbrev q : tie.In-Cell-2 → ℕ
-q c = c.q-1.given.0.0
-
-cell : (c : tie.In-Cell-2) → landing (begun c).args.grid (begun c).args.step ≡ some (q c)
-cell c = step_cell (sym (found c.before.before) ∙ c.q-1.given.1)
+cell : (c : tie.In-Cell) → landing c.args.grid c.args.step ≡ some (q c)
+cell c = step_cell (sym (found c.before) ∙ c.in-Cell.is)
 
 -- no other is named
-only : (c : tie.In-Cell-2) (r : ℕ) → landing (begun c).args.grid (begun c).args.step ≡ some r → r ≡ q c
+only : (c : tie.In-Cell) (r : ℕ) → landing c.args.grid c.args.step ≡ some r → r ≡ q c
 only c r e = some_inj (sym e ∙ cell c)
 
 -- what is read there
-seen : (c : tie.In-Cell-2) → CellRead (n (begun c)) (q c) (work (begun c))
-seen c = cell_read (begun c).requires.0.sheet (step_sound _ _ _ _ _ _ _ (cell c)).inside
+seen : (c : tie.In-Cell) → CellRead (n c.before.before.before.before.before.before) (q c) (work c.before.before.before.before.before.before)
+seen c = cell_read c.requires.0.sheet (step_sound _ _ _ _ _ _ _ (cell c)).inside
 
 mul-own : tie.Need-offset_bounds-work-q
-mul-own c = omega (arith, seen c.before)
+mul-own c = omega (arith, seen c)
 
 slice-read-own : tie.Need-bounds-work-q
-slice-read-own c = omega (arith, seen c.before.before)
+slice-read-own c = omega (arith, seen c.before)
 
-paint_is : (c : tie.In-Cell-2) → get_or (work (begun c)) (q c) 0 ≡ plane (n (begun c)) 0 (work (begun c)) (q c)
-paint_is c = plane_read (n (begun c)) 0 (q c) (q c) (work (begun c)) (omega arith)
+paint_is : (c : tie.In-Cell) → get_or (work c.before.before.before.before.before.before) (q c) 0 ≡ plane (n c.before.before.before.before.before.before) 0 (work c.before.before.before.before.before.before) (q c)
+paint_is c = plane_read (n c.before.before.before.before.before.before) 0 (q c) (q c) (work c.before.before.before.before.before.before) (omega arith)
 
 returns-2 : tie.Need-returns-then-own-paint
 returns-2 c =
-    let r = c.before.before.before in
-    let s = begun r in
-    idle s (λ x z y. absurd (c.if-own-paint.true (paint_is r ∙ ap (plane (n s) 0 (work s)) (sym (only r x z.0)) ∙ z.1)))
-
-abbrev alike : tie.Else-own-paint → tie.In-Cell-2
-alike c = c.before.before.before
+    idle c.before.before.before.before.before.before.before.before (λ x z y. absurd (c.if-own-paint.true (paint_is c.before.before ∙ ap (plane (n c.before.before.before.before.before.before.before.before) 0 (work c.before.before.before.before.before.before.before.before)) (sym (only c.before.before x z.0)) ∙ z.1)))
 
 mul-last : tie.Need-overflow_mul-last
-mul-last c = omega (arith, seen (alike c))
+mul-last c = omega (arith, seen c.before.before)
 
 add-last : tie.Need-overflow_add-last
-add-last c = omega (arith, seen (alike c))
+add-last c = omega (arith, seen c.before.before)
 
 mul-last-2 : tie.Need-offset_bounds-work-n
-mul-last-2 c = omega (arith, seen (alike c))
+mul-last-2 c = omega (arith, seen c.before.before)
 
 slice-read-last : tie.Need-bounds-work-n
-slice-read-last c = omega (arith, seen (alike c.before))
+slice-read-last c = omega (arith, seen c.before.before.before)
 
 returns-3 : tie.Need-returns-then-last-ne0
 returns-3 c =
-    let r = alike c.before.before in
-    let s = begun r in
-    idle s (λ x z y e. c.if-last-ne0.true ((seen r).large ∙ ap (plane (n s) 5 (work s)) (sym (only r x z.0)) ∙ e))
-
-abbrev little : tie.Else-last-ne0 → tie.In-Cell-2
-little c = alike c.before.before
+    idle c.before.before.before.before.before.before.before.before.before.before (λ x z y e. c.if-last-ne0.true ((seen c.before.before.before.before).large ∙ ap (plane (n c.before.before.before.before.before.before.before.before.before.before) 5 (work c.before.before.before.before.before.before.before.before.before.before)) (sym (only c.before.before.before.before x z.0)) ∙ e))
 
 add-label : tie.Need-overflow_add-label
-add-label c = omega (arith, seen (little c))
+add-label c = omega (arith, seen c.before.before.before.before)
 
 mul-label : tie.Need-offset_bounds-work-n-2
-mul-label c = omega (arith, seen (little c))
+mul-label c = omega (arith, seen c.before.before.before.before)
 
 slice-read-label : tie.Need-bounds-work-n-2
-slice-read-label c = omega (arith, seen (little c.before))
+slice-read-label c = omega (arith, seen c.before.before.before.before.before)
 
 cast-label : tie.Need-overflow_cast-label
-cast-label c = omega (arith, seen (little c.before))
+cast-label c = omega (arith, seen c.before.before.before.before.before)
 
 returns-4 : tie.Need-returns-then-label-eq0
 returns-4 c =
-    let r = little c.before.before in
-    let s = begun r in
-    idle s (λ x z y. let e : plane (n s) 1 (work s) x ≡ 0 = ap (plane (n s) 1 (work s)) (only r x z.0) ∙ sym (seen r).label ∙ c.if-label-eq0.true in absurd (omega arith))
+    idle c.before.before.before.before.before.before.before.before.before.before.before.before (λ x z y. let e : plane (n c.before.before.before.before.before.before.before.before.before.before.before.before) 1 (work c.before.before.before.before.before.before.before.before.before.before.before.before) x ≡ 0 = ap (plane (n c.before.before.before.before.before.before.before.before.before.before.before.before) 1 (work c.before.before.before.before.before.before.before.before.before.before.before.before)) (only c.before.before.before.before.before.before x z.0) ∙ sym (seen c.before.before.before.before.before.before).label ∙ c.if-label-eq0.true in absurd (omega arith))
 
 -- ---- its group
 
-abbrev named : tie.Else-label-eq0 → tie.In-Cell-2
-named c = little c.before.before
-
 -- its label, less one
-abbrev at : tie.In-Cell-2 → ℕ
-at c = get_or (work (begun c)) (n (begun c) + q c) 0 - 1
+abbrev at : tie.In-Cell → ℕ
+at c = get_or (work c.before.before.before.before.before.before) (n c.before.before.before.before.before.before + q c) 0 - 1
 
-pub record Found (r : tie.In-Cell-2) : Type 0 where
-  pub label : plane (n (begun r)) 1 (work (begun r)) (q r) ≡ suc (at r)
-  pub little : large_of (n (begun r)) (work (begun r)) (q r) ≡ false
-  pub paint : plane (n (begun r)) 0 (work (begun r)) (q r) ≡ (begun r).args.paint
-  pub low : at r < n (begun r)
-  pub room : (begun r).args.end < n (begun r)
+pub record Found (r : tie.In-Cell) : Type 0 where
+  pub label : plane (n r.before.before.before.before.before.before) 1 (work r.before.before.before.before.before.before) (q r) ≡ suc (at r)
+  pub little : large_of (n r.before.before.before.before.before.before) (work r.before.before.before.before.before.before) (q r) ≡ false
+  pub paint : plane (n r.before.before.before.before.before.before) 0 (work r.before.before.before.before.before.before) (q r) ≡ r.args.paint
+  pub low : at r < n r.before.before.before.before.before.before
+  pub room : r.args.end < n r.before.before.before.before.before.before
 
-found-group : (c : tie.Else-label-eq0) → Found (named c)
+found-group : (c : tie.Else-label-eq0) → Found c.before.before.before.before.before.before
 found-group c =
-    let two = c.before.before in
-    let r = named c in
-    let s = begun r in
-    let e : plane (n s) 1 (work s) (q r) ≡ suc (at r) = sym (seen r).label ∙ omega (arith, c.if-label-eq0.false) in
-    let l = zero_big (n s) (work s) (q r) (sym (seen r).large ∙ two.if-last-ne0.false) in
+    let e : plane (n c.before.before.before.before.before.before.before.before.before.before.before.before) 1 (work c.before.before.before.before.before.before.before.before.before.before.before.before) (q c.before.before.before.before.before.before) ≡ suc (at c.before.before.before.before.before.before) = sym (seen c.before.before.before.before.before.before).label ∙ omega (arith, c.if-label-eq0.false) in
+    let l = zero_big (n c.before.before.before.before.before.before.before.before.before.before.before.before) (work c.before.before.before.before.before.before.before.before.before.before.before.before) (q c.before.before.before.before.before.before) (sym (seen c.before.before.before.before.before.before).large ∙ c.if-last-ne0.false) in
     record {
       label = e;
       little = l;
-      paint = sym (paint_is r) ∙ two.before.before.if-own-paint.false;
-      low = (s.requires.0.sheet.groups (q r) (at r) (seen r).inside e).label;
-      room = grown_room s.args.grid s.args.end (work s) s.requires.0 (q r) (at r) (seen r).inside e l;
+      paint = sym (paint_is c.before.before.before.before.before.before) ∙ c.if-own-paint.false;
+      low = (c.requires.0.sheet.groups (q c.before.before.before.before.before.before) (at c.before.before.before.before.before.before) (seen c.before.before.before.before.before.before).inside e).label;
+      room = grown_room c.args.grid c.args.end (work c.before.before.before.before.before.before.before.before.before.before.before.before) c.requires.0 (q c.before.before.before.before.before.before) (at c.before.before.before.before.before.before) (seen c.before.before.before.before.before.before).inside e l;
     }
 
 sub_at : tie.Need-overflow_sub-at
@@ -174,50 +149,39 @@ sub_at c = search rules
 
 set-region-requires : tie.Need-set_region-requires
 set-region-requires c κs =
-    let o = c.before in
-    let r = named o in
-    let z = seen r in
-    ((begun r).requires.0.sheet.groups (q r) (at r) z.inside (found-group o).label, (z.room, z.few, omega arith, inr (omega arith)))
-
-abbrev after-set : tie.After-slice_known-5-1 → tie.After-set_region
-after-set c = c.before.before
-
-abbrev last : tie.After-slice_known-5-1 → tie.Else-label-eq0
-last c = (after-set c).before.before
+    let z = seen c.before.before.before.before.before.before.before in
+    (c.requires.0.sheet.groups (q c.before.before.before.before.before.before.before) (at c.before.before.before.before.before.before.before) z.inside (found-group c.before).label, (z.room, z.few, omega arith, inr (omega arith)))
 
 cast-work : tie.Need-overflow_cast-work
-cast-work c = let o = last c in omega (arith, found-group o, seen (named o))
+cast-work c = omega (arith, found-group c.before.before.before.before, seen c.before.before.before.before.before.before.before.before.before.before)
 
 mul-work : tie.Need-overflow_mul-work
-mul-work c = omega (arith, seen (named (last c)))
+mul-work c = omega (arith, seen c.before.before.before.before.before.before.before.before.before.before)
 
 add-work : tie.Need-overflow_add-work
-add-work c = let o = last c in omega (arith, found-group o, seen (named o))
+add-work c = omega (arith, found-group c.before.before.before.before, seen c.before.before.before.before.before.before.before.before.before.before)
 
 mul-work-2 : tie.Need-offset_bounds-work-n-3
-mul-work-2 c = let o = last c in omega (arith, found-group o, seen (named o))
+mul-work-2 c = omega (arith, found-group c.before.before.before.before, seen c.before.before.before.before.before.before.before.before.before.before)
 
 slice-write-work : tie.Need-bounds-work-n-3
-slice-write-work c = let o = last c in let e = (after-set c).set_region.ensures.len in omega (arith, found-group o, seen (named o))
+slice-write-work c = let e = c.set_region.ensures.len in omega (arith, found-group c.before.before.before.before, seen c.before.before.before.before.before.before.before.before.before.before)
 
 add-result : tie.Need-overflow_add-result
-add-result c = let o = last c in omega (arith, found-group o, seen (named o))
+add-result c = omega (arith, found-group c.before.before.before.before, seen c.before.before.before.before.before.before.before.before.before.before)
 
 same_length : tie.Need-shape_of-work
 same_length c = search rules
 
 returns-5 : tie.Need-returns
 returns-5 c =
-    let o = last c in
-    let r = named o in
-    let s = begun r in
-    let f = found-group o in
-    let z = seen r in
-    let t = (after-set c).set_region in
+    let f = found-group c.before.before.before.before in
+    let z = seen c.before.before.before.before.before.before.before.before.before.before in
+    let t = c.set_region in
     let e = t.ensures.len in
-    rw (add-one s.args.end)
-    (gained_one s.args.grid s.args.end (work s) s.requires.0 (q r) (at r) z.inside f.label f.little t.last.0 t.ensures
-    (7 * n s + s.args.end) (omega arith) (omega (arith, f, z)) (Near s) (cell r, f.paint) (λ x y. only r x y.0))
+    rw (add-one c.args.end)
+    (gained_one c.args.grid c.args.end (work c.before.before.before.before.before.before.before.before.before.before.before.before.before.before.before.before) c.requires.0 (q c.before.before.before.before.before.before.before.before.before.before) (at c.before.before.before.before.before.before.before.before.before.before) z.inside f.label f.little t.new.work t.ensures
+    (7 * n c.before.before.before.before.before.before.before.before.before.before.before.before.before.before.before.before + c.args.end) (omega arith) (omega (arith, f, z)) (Near c.before.before.before.before.before.before.before.before.before.before.before.before.before.before.before.before) (cell c.before.before.before.before.before.before.before.before.before.before, f.paint) (λ x y. only c x y.0))
 
 pub absorb_spec : {M : Type 1} → statement M
 absorb_spec =

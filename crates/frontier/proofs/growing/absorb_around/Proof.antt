@@ -19,30 +19,21 @@ abbrev decreases-loop : tie.decreases-loop-i
 decreases-loop work₀ grid at from n end₀ i₀ i-end work end i = i-end - i
 
 mul-n : tie.Need-overflow_mul-n invariant-loop decreases-loop
-mul-n c = omega (arith, sheet-few c.before.before.requires.0.sheet)
+mul-n c = omega (arith, sheet-few c.requires.0.sheet)
 
 region-span-requires : tie.Need-region_span-span-requires invariant-loop decreases-loop
-region-span-requires c κs = let s = c.before.before.before in let b = s.requires.0.sheet in (b.room, sheet-few b, s.requires.1)
-
-abbrev start : tie.After-region_span-span invariant-loop decreases-loop → tie.Start invariant-loop decreases-loop
-start c = c.before.before.before.before
+region-span-requires c κs = let b = c.requires.0.sheet in (b.room, sheet-few b, c.requires.1)
 
 loop-holds : tie.Need-loop-i-init invariant-loop decreases-loop
 loop-holds c =
-    let s = start c in
-    (gained_start _ _ _ _ s.requires.0 (λ q l y w. let f = y.1 in let g = y.2 in absurd (omega arith)), omega arith, (group-stretch s.requires.1 c.region_span-span.ensures).rises)
-
--- the call that a turn belongs to
-abbrev ran : tie.In-loop-i invariant-loop decreases-loop → tie.Start invariant-loop decreases-loop
-ran c = start c.before.before
+    (gained_start _ _ _ _ c.requires.0 (λ q l y w. let f = y.1 in let g = y.2 in absurd (omega arith)), omega arith, (group-stretch c.requires.1 c.region_span-span.ensures).rises)
 
 -- what is read is a place of the group
-turn : (c : tie.In-loop-i invariant-loop decreases-loop) → SpanTurn (area_of (ran c).args.grid) c.before.loop-i.i c.before.before.region_span-span.result (ran c).args.work.now c.before.loop-i.work
+turn : (c : tie.In-loop-i invariant-loop decreases-loop) → SpanTurn (area_of c.args.grid) c.loop-i.i c.region_span-span.result c.args.work.now c.loop-i.work
 turn c =
-    let s = ran c in
-    let b = s.requires.0.sheet in
-    let u = c.before.loop-i.invariant in
-    span_turn (sheet-few b) b.room (group-stretch s.requires.1 c.before.before.region_span-span.ensures) u.0.len
+    let b = c.requires.0.sheet in
+    let u = c.loop-i.invariant in
+    span_turn (sheet-few b) b.room (group-stretch c.requires.1 c.region_span-span.ensures) u.0.len
     (λ q l. u.0.same 2 q (λ z. absurd (omega arith)) (λ z. absurd (omega arith)) l) u.1 c.loop-i-test.true
 
 mul-p : tie.Need-overflow_mul-p invariant-loop decreases-loop
@@ -61,46 +52,38 @@ cast-p : tie.Need-overflow_cast-p invariant-loop decreases-loop
 cast-p c = omega (arith, turn c.before)
 
 absorb-beside-requires : tie.Need-absorb_beside-end-requires invariant-loop decreases-loop
-absorb-beside-requires c κs = let i = c.before.before in (i.before.loop-i.invariant.0.growth, (turn i).place)
-
-abbrev turned : tie.After-absorb_beside-end invariant-loop decreases-loop → tie.In-loop-i invariant-loop decreases-loop
-turned c = c.before.before.before
+absorb-beside-requires c κs = (c.loop-i.invariant.0.growth, (turn c.before.before).place)
 
 add-i : tie.Need-overflow_step-i invariant-loop decreases-loop
-add-i c = omega (arith, turn (turned c.before.before))
+add-i c = omega (arith, turn c.before.before.before.before.before)
 
 loop-less : tie.Need-loop-i-smaller invariant-loop decreases-loop
-loop-less c = omega (arith, turn (turned c.before.before))
+loop-less c = omega (arith, turn c.before.before.before.before.before)
 
 loop-again : tie.Need-loop-i-preserved invariant-loop decreases-loop
 loop-again c =
-    let j = c.before.before in
-    let i = turned j in
-    let s = ran i in
-    let u = i.before.loop-i.invariant in
-    let b = turn i in
-    let p = plane (area_of s.args.grid) 2 s.args.work.now i.before.loop-i.i in
-    let lp : p < area_of s.args.grid = rw b.is at b.place in (
+    let u = c.loop-i.invariant in
+    let b = turn c.before.before.before.before.before in
+    let p = plane (area_of c.args.grid) 2 c.args.work.now c.loop-i.i in
+    let lp : p < area_of c.args.grid = rw b.is at b.place in (
       gained_same
           (λ q l. ⊎_elim (λ z. more_within u.1 (inl z)) (λ z. more_within u.1 (inr (matches_was u.0 p q lp l z))))
           (λ q l z. ⊎_elim inl (λ y. inr (matches_now u.0 p q lp l y)) (within_more z))
-          (gained_trans u.0 (rw b.is at j.absorb_beside-end.ensures)),
+          (gained_trans u.0 (rw b.is at c.absorb_beside-end.ensures)),
       omega (arith, u.1),
       omega (arith, b.turn),
     )
 
 same_length : tie.Need-shape_of-work invariant-loop decreases-loop
-same_length c = c.before.loop-i.invariant.0.len
+same_length c = c.loop-i.invariant.0.len
 
 returns : tie.Need-returns invariant-loop decreases-loop
 returns c =
-    let e = c.before.before in
-    let s = start e in
-    let u = c.before.loop-i.invariant in
-    let ends = e.region_span-span.ensures in
+    let u = c.loop-i.invariant in
+    let ends = c.region_span-span.ensures in
     gained_same
-    (λ q l z. within-group (λ p. Matches s.args.grid s.args.work.now p q) s.requires.1 ends u.2 z)
-    (λ q l z. group-within (λ p. Matches s.args.grid s.args.work.now p q) s.requires.1 ends c.loop-i-test.false z)
+    (λ q l z. within-group (λ p. Matches c.args.grid c.args.work.now p q) c.requires.1 ends u.2 z)
+    (λ q l z. group-within (λ p. Matches c.args.grid c.args.work.now p q) c.requires.1 ends c.loop-i-test.false z)
     u.0
 
 pub absorb_around_spec : {M : Type 1} → statement M

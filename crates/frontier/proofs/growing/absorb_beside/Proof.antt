@@ -44,59 +44,38 @@ mul-n c = omega (arith, sizes c.before.before)
 mul-paint : tie.Need-offset_bounds-work-p invariant-loop decreases-loop
 mul-paint c = omega (arith, sizes c.before.before)
 
-abbrev entered : tie.After-slice_known-2-1 invariant-loop decreases-loop → tie.Start invariant-loop decreases-loop
-entered c = c.before.before.before
-
 slice-read-paint : tie.Need-bounds-work-p invariant-loop decreases-loop
-slice-read-paint c = omega (arith, sizes (entered c))
+slice-read-paint c = omega (arith, sizes c.before.before.before)
 
 -- what is read is the place's paint
 paint_is : (s : tie.Start invariant-loop decreases-loop) → get_or s.args.work.now s.args.p 0 ≡ plane (area_of s.args.grid) 0 s.args.work.now s.args.p
 paint_is s = plane_read (area_of s.args.grid) 0 s.args.p s.args.p s.args.work.now (omega arith)
 
 small-near-requires : tie.Need-small_near-requires invariant-loop decreases-loop
-small-near-requires c κs = let s = entered c.before in let z = sizes s in (z.room, z.few, s.requires.0.sheet.cols, z.inside)
-
-abbrev start : tie.After-small_near invariant-loop decreases-loop → tie.Start invariant-loop decreases-loop
-start c = entered c.before.before
+small-near-requires c κs = let z = sizes c.before.before.before in (z.room, z.few, c.requires.0.sheet.cols, z.inside)
 
 same_length : tie.Need-shape_of-work-then-not-small_near invariant-loop decreases-loop
 same_length c = search rules
 
 returns : tie.Need-returns-then-not-small_near invariant-loop decreases-loop
 returns c =
-    let s = start c.before in
-    gained_none s.args.grid s.args.from _ s.args.work.now s.requires.0
-    (λ q l z y. c.before.small_near.ensures (not_true c.if-not-small_near.true) q (neighbours_in s.args.grid s.requires.0.sheet.ways s.args.p q l z.0) (z.1 ∙ sym (paint_is s)))
+    gained_none c.args.grid c.args.from _ c.args.work.now c.requires.0
+    (λ q l z y. c.small_near.ensures (not_true c.if-not-small_near.true) q (neighbours_in c.args.grid c.requires.0.sheet.ways c.args.p q l z.0) (z.1 ∙ sym (paint_is c.before.before.before.before.before)))
 
 on-edge-requires : tie.Need-on_edge-border-requires invariant-loop decreases-loop
-on-edge-requires c κs = let s = start c.before in (s.requires.1, s.requires.0.sheet.rows, s.requires.0.sheet.cols)
-
-abbrev begun : tie.After-on_edge-border invariant-loop decreases-loop → tie.Start invariant-loop decreases-loop
-begun c = start c.before.before
+on-edge-requires c κs = (c.requires.1, c.requires.0.sheet.rows, c.requires.0.sheet.cols)
 
 step-count-requires : tie.Need-step_count-steps-requires invariant-loop decreases-loop
-step-count-requires c κs = (begun c).requires.0.sheet.ways
+step-count-requires c κs = c.requires.0.sheet.ways
 
 loop-holds : tie.Need-loop-s-init invariant-loop decreases-loop
 loop-holds c =
-    let s = begun c.before in
-    (gained_start s.args.grid s.args.from (Near s.args.grid s.args.work.now s.args.p 0) s.args.work.now s.requires.0 (λ q l z y. let n = z.0.1 in absurd (omega arith)), omega arith)
-
--- the call that a walk belongs to
-abbrev ran : tie.At-loop-s invariant-loop decreases-loop → tie.Start invariant-loop decreases-loop
-ran c = begun c.before.before
-
--- the walk that a turn belongs to
-abbrev walked : tie.Else-s-steps invariant-loop decreases-loop → tie.At-loop-s invariant-loop decreases-loop
-walked c = c.before.before
+    (gained_start c.args.grid c.args.from (Near c.args.grid c.args.work.now c.args.p 0) c.args.work.now c.requires.0 (λ q l z y. let n = z.0.1 in absurd (omega arith)), omega arith)
 
 -- the step in turn
-walk : (c : tie.Else-s-steps invariant-loop decreases-loop) → let a = walked c in WalkTurn (ran a).args.grid (ran a).args.p a.loop-s.s a.before.before.on_edge-border.result
+walk : (c : tie.Else-s-steps invariant-loop decreases-loop) → WalkTurn c.args.grid c.args.p c.loop-s.s c.on_edge-border.result
 walk c =
-    let a = walked c in
-    let s = ran a in
-    walk_turn s.requires.0.sheet s.requires.1 a.before.before.on_edge-border.ensures (omega (arith, a.loop-s.invariant.1, c.if-s-steps.false, a.before.step_count-steps.ensures))
+    walk_turn c.requires.0.sheet c.requires.1 c.on_edge-border.ensures (omega (arith, c.loop-s.invariant.1, c.if-s-steps.false, c.step_count-steps.ensures))
 
 mul-o : tie.Need-offset_bounds-offsets-s invariant-loop decreases-loop
 mul-o c = omega (arith, (walk c).few)
@@ -110,57 +89,46 @@ array-copy-out-dy c = search rules
 array-copy-out-dx : tie.Need-bounds-o-1 invariant-loop decreases-loop
 array-copy-out-dx c = search rules
 
-abbrev turn : tie.After-absorb-arg-1 invariant-loop decreases-loop → tie.Else-s-steps invariant-loop decreases-loop
-turn c = c.before.before.before.before
-
 absorb-requires : tie.Need-absorb-end-requires invariant-loop decreases-loop
-absorb-requires c κs = let i = turn c in ((walked i).loop-s.invariant.0.growth, (walk i).one)
-
-abbrev turned : tie.After-absorb-end invariant-loop decreases-loop → tie.Else-s-steps invariant-loop decreases-loop
-turned c = turn c.before
+absorb-requires c κs = (c.loop-s.invariant.0.growth, (walk c.before.before.before.before).one)
 
 add-s : tie.Need-overflow_step-s invariant-loop decreases-loop
-add-s c = omega (arith, (walk (turned c.before.before)).few)
+add-s c = omega (arith, (walk c.before.before.before.before.before.before.before).few)
 
 loop-less : tie.Need-loop-s-smaller invariant-loop decreases-loop
-loop-less c = omega (arith, (walk (turned c.before.before)).few)
+loop-less c = omega (arith, (walk c.before.before.before.before.before.before.before).few)
 
 loop-again : tie.Need-loop-s-preserved invariant-loop decreases-loop
 loop-again c =
-    let j = c.before.before in
-    let i = turned j in
-    let a = walked i in
-    let s = ran a in
-    let k = a.loop-s.s in
-    let u = a.loop-s.invariant.0 in (
+    let k = c.loop-s.s in
+    let u = c.loop-s.invariant.0 in (
       gained_same
-          (λ q l. ⊎_elim (λ z. (more_reached s.args.grid s.args.p k (inl z.0), z.1)) (λ z. (more_reached s.args.grid s.args.p k (inr z.0), sym (gained_paint u q l) ∙ z.1 ∙ paint_is s)))
-          (λ q l z. ⊎_elim (λ y. inl (y, z.1)) (λ y. inr (y, gained_paint u q l ∙ z.1 ∙ sym (paint_is s))) (reached_more s.args.grid s.args.p k z.0))
-          (gained_trans u (rw (walk i).lands at j.absorb-end.ensures)),
-      omega (arith, a.loop-s.invariant.1, i.if-s-steps.false, a.before.step_count-steps.ensures),
+          (λ q l. ⊎_elim (λ z. (more_reached c.args.grid c.args.p k (inl z.0), z.1)) (λ z. (more_reached c.args.grid c.args.p k (inr z.0), sym (gained_paint u q l) ∙ z.1 ∙ paint_is c.before.before.before.before.before.before.before.before.before.before.before.before.before.before.before.before.before)))
+          (λ q l z. ⊎_elim (λ y. inl (y, z.1)) (λ y. inr (y, gained_paint u q l ∙ z.1 ∙ sym (paint_is c.before.before.before.before.before.before.before.before.before.before.before.before.before.before.before.before.before))) (reached_more c.args.grid c.args.p k z.0))
+          (gained_trans u (rw (walk c.before.before.before.before.before.before.before).lands at c.absorb-end.ensures)),
+      omega (arith, c.loop-s.invariant.1, c.if-s-steps.false, c.step_count-steps.ensures),
     )
 
 same-length-2 : tie.Need-shape_of-work-then-s-steps invariant-loop decreases-loop
-same-length-2 c = c.before.before.loop-s.invariant.0.len
+same-length-2 c = c.loop-s.invariant.0.len
 
 same-length-3 : tie.Need-shape_of-work invariant-loop decreases-loop
-same-length-3 c = c.before.loop-s.invariant.0.len
+same-length-3 c = c.loop-s.invariant.0.len
 
 -- once all steps are made
-all : (c : tie.At-loop-s invariant-loop decreases-loop) → let s = ran c in s.args.grid.steps ≤ c.loop-s.s → Gained s.args.grid (Matches s.args.grid s.args.work.now s.args.p) s.args.work.now c.loop-s.work s.args.from c.loop-s.end
+all : (c : tie.At-loop-s invariant-loop decreases-loop) → c.args.grid.steps ≤ c.loop-s.s → Gained c.args.grid (Matches c.args.grid c.args.work.now c.args.p) c.args.work.now c.loop-s.work c.args.from c.loop-s.end
 all c e =
-    let s = ran c in
-    let ways = s.requires.0.sheet.ways in
+    let ways = c.requires.0.sheet.ways in
     gained_same
-    (λ q l z. (reached_all s.args.grid s.args.p c.loop-s.s ways c.loop-s.invariant.1 z.0, z.1))
-    (λ q l z. (all_reached s.args.grid s.args.p c.loop-s.s ways e l z.0, z.1))
+    (λ q l z. (reached_all c.args.grid c.args.p c.loop-s.s ways c.loop-s.invariant.1 z.0, z.1))
+    (λ q l z. (all_reached c.args.grid c.args.p c.loop-s.s ways e l z.0, z.1))
     c.loop-s.invariant.0
 
 returns-2 : tie.Need-returns-then-s-steps invariant-loop decreases-loop
-returns-2 c = let a = c.before.before in all a (omega (arith, c.if-s-steps.true, a.before.step_count-steps.ensures))
+returns-2 c = all c.before.before (omega (arith, c.if-s-steps.true, c.step_count-steps.ensures))
 
 returns-3 : tie.Need-returns invariant-loop decreases-loop
-returns-3 c = let a = c.before in all a (omega (arith, c.loop-s-test.false, walk_most (ran a).requires.0.sheet))
+returns-3 c = all c.before (omega (arith, c.loop-s-test.false, walk_most c.requires.0.sheet))
 
 pub absorb_beside_spec : {M : Type 1} → statement M
 absorb_beside_spec =

@@ -26,84 +26,71 @@ decreases-loop work₀ n count limit at₀ work at = count - at
 
 loop-holds : tie.Need-loop-at-init invariant-loop decreases-loop
 loop-holds c =
-    let s = c.before in
-    (enlarged_start s.args.n (Wide s.args.n s.args.work.now s.args.limit 0) s.args.work.now (λ l z. let y = z.0 in absurd (omega arith)), omega arith)
-
-abbrev start : tie.In-loop-at invariant-loop decreases-loop → tie.Start invariant-loop decreases-loop
-start c = c.before.before.before
+    (enlarged_start c.args.n (Wide c.args.n c.args.work.now c.args.limit 0) c.args.work.now (λ l z. let y = z.0 in absurd (omega arith)), omega arith)
 
 -- the group in turn
 pub record Turn (c : tie.In-loop-at invariant-loop decreases-loop) : Type 0 where
-  pub few : (start c).args.n ≤ 264196
-  pub room : 8 * (start c).args.n ≤ length c.before.loop-at.work
-  pub turn : c.before.loop-at.at < (start c).args.count
-  pub label : c.before.loop-at.at < (start c).args.n
-  pub group : Group (start c).args.n c.before.loop-at.work c.before.loop-at.at
+  pub few : c.args.n ≤ 264196
+  pub room : 8 * c.args.n ≤ length c.loop-at.work
+  pub turn : c.loop-at.at < c.args.count
+  pub label : c.loop-at.at < c.args.n
+  pub group : Group c.args.n c.loop-at.work c.loop-at.at
 
 turn : (c : tie.In-loop-at invariant-loop decreases-loop) → Turn c
 turn c =
-    let s = start c in
-    let u = c.before.loop-at.invariant in
-    let g = enlarged_group u.0 (s.requires.1 c.before.loop-at.at c.loop-at-test.true) in
-    record { few = s.requires.0.1; room = rw u.0.kept.len s.requires.0.0; turn = omega (arith, c.loop-at-test.true); label = g.label; group = g }
-
-abbrev turned : tie.After-region_size-size invariant-loop decreases-loop → tie.In-loop-at invariant-loop decreases-loop
-turned c = c.before.before
+    let u = c.loop-at.invariant in
+    let g = enlarged_group u.0 (c.requires.1 c.loop-at.at c.loop-at-test.true) in
+    record { few = c.requires.0.1; room = rw u.0.kept.len c.requires.0.0; turn = omega (arith, c.loop-at-test.true); label = g.label; group = g }
 
 -- the group's size, at the entry
 size_is : (c : tie.After-region_size-size invariant-loop decreases-loop) →
-    let i = turned c in let s = start i in
-    c.region_size-size.result ≡ end_of s.args.n s.args.work.now (suc i.before.loop-at.at) - end_of s.args.n s.args.work.now i.before.loop-at.at
+    c.region_size-size.result ≡ end_of c.args.n c.args.work.now (suc c.loop-at.at) - end_of c.args.n c.args.work.now c.loop-at.at
 size_is c =
-    let i = turned c in
-    let b = turn i in
-    let k = kept_alike i.before.loop-at.invariant.0.kept in
-    let e = end_alike k i.before.loop-at.at (omega (arith, b)) in
-    let f = end_alike k (suc i.before.loop-at.at) (omega (arith, b)) in
+    let b = turn c.before in
+    let k = kept_alike c.loop-at.invariant.0.kept in
+    let e = end_alike k c.loop-at.at (omega (arith, b)) in
+    let f = end_alike k (suc c.loop-at.at) (omega (arith, b)) in
     omega (arith, c.region_size-size.ensures)
 
 loop-again : tie.Need-loop-at-preserved invariant-loop decreases-loop
 loop-again c =
-    let r = c.before in
-    let i = turned r in
-    let s = start i in
-    let n = s.args.n in
-    let a = s.args.work.now in
-    let at = i.before.loop-at.at in
-    let u = i.before.loop-at.invariant in
-    let m = size_is r in (
+    let n = c.args.n in
+    let a = c.args.work.now in
+    let at = c.loop-at.at in
+    let u = c.loop-at.invariant in
+    let m = size_is c.before in (
       ⊎_elim
           (λ w. rw w.5 (enlarged_same
           (λ l. ⊎_elim (λ z. (omega (arith, z.0), z.1)) (λ z. (omega arith, rw z (omega (arith, w.0.taken)))))
           (λ l z. elim (ℕ_discrete l at) [ yes e ↦ inr e | no d ↦ inl (omega (arith, z.0), z.1) ])
-          (enlarged_on n (Wide n a s.args.limit at) a i.before.loop-at.work w.2.last.0 at u.0 w.2.ensures)))
+          (enlarged_on n (Wide n a c.args.limit at) a c.loop-at.work w.2.last.0 at u.0 w.2.ensures)))
           (λ w. rw w.1 (enlarged_same
           (λ l z. (omega (arith, z.0), z.1))
-          (λ l z. (elim (ℕ_discrete l at) [ yes e ↦ (let y : s.args.limit ≤ end_of n a (suc at) - end_of n a at = rw e at z.1 in absurd (omega (arith, w.0.left))) | no d ↦ omega (arith, z.0) ], z.1))
+          (λ l z. (elim (ℕ_discrete l at) [ yes e ↦ (let y : c.args.limit ≤ end_of n a (suc at) - end_of n a at = rw e at z.1 in absurd (omega (arith, w.0.left))) | no d ↦ omega (arith, z.0) ], z.1))
           u.0))
           c.if-limit-size.branch-raw,
-      omega (arith, (turn i).turn),
+      omega (arith, (turn c.before.before).turn),
     )
 
 returns : tie.Need-returns invariant-loop decreases-loop
 returns c =
-    let u = c.before.loop-at.invariant in
+    let u = c.loop-at.invariant in
     enlarged_same (λ l z. (omega (arith, z.0, u.1), z.1)) (λ l z. (omega (arith, z.0, c.loop-at-test.false), z.1)) u.0
 
 region-size-requires : tie.Need-region_size-size-requires invariant-loop decreases-loop
-region-size-requires c κs = let b = turn c.before in (b.room, b.few, b.group)
+region-size-requires c κs = let b = turn c in (b.room, b.few, b.group)
 
 set-region-requires : tie.Need-set_region-requires invariant-loop decreases-loop
-set-region-requires c κs = let b = turn (turned c.before.before) in (b.group, (b.room, b.few, omega arith, inr (omega arith)))
+set-region-requires c κs = let b = turn c.before.before.before in (b.group, (b.room, b.few, omega arith, inr (omega arith)))
 
 add_at : tie.Need-overflow_step-at invariant-loop decreases-loop
-add_at c = omega (arith, turn (turned c.before))
+add_at c = omega (arith, turn c.before.before)
 
 loop-less : tie.Need-loop-at-smaller invariant-loop decreases-loop
-loop-less c = omega (arith, turn (turned c.before))
+loop-less c = omega (arith, turn c.before.before)
 
 same_length : tie.Need-shape_of-work invariant-loop decreases-loop
-same_length c = c.before.loop-at.invariant.0.kept.len
+same_length c = c.loop-at.invariant.0.kept.len
 
 pub mark_large_spec : {M : Type 1} → statement M
 mark_large_spec =

@@ -21,7 +21,7 @@ mul-number : tie.Need-overflow_mul-number invariant-loop decreases-loop
 mul-number c = search rules
 
 add-number : tie.Need-overflow_add-number invariant-loop decreases-loop
-add-number c = let s = c.before in omega (arith, s.requires.1.0.label)
+add-number c = omega (arith, c.requires.1.0.label)
 
 mul-number-2 : tie.Need-offset_bounds-work-n invariant-loop decreases-loop
 mul-number-2 c = search rules
@@ -38,28 +38,20 @@ number : (s : tie.Start invariant-loop decreases-loop) → get_or s.args.work.no
 number s = plane_read s.args.n 6 s.args.at (6 * s.args.n + s.args.at) s.args.work.now (omega arith)
 
 sub-paint : tie.Need-overflow_sub-paint invariant-loop decreases-loop
-sub-paint c = let s = c.before.before in omega (arith, number s, s.requires.1.1)
+sub-paint c = omega (arith, number c.before.before, c.requires.1.1)
 
 region-span-requires : tie.Need-region_span-span-requires invariant-loop decreases-loop
-region-span-requires c κs = let s = c.before.before.before in (s.requires.0.0, s.requires.0.1, s.requires.1.0)
-
-abbrev start : tie.After-region_span-span invariant-loop decreases-loop → tie.Start invariant-loop decreases-loop
-start c = c.before.before.before.before
+region-span-requires c κs = (c.requires.0.0, c.requires.0.1, c.requires.1.0)
 
 loop-holds : tie.Need-loop-i-init invariant-loop decreases-loop
-loop-holds c = rw c.region_span-span.ensures.0 (repainting_start _ _ _ _ (start c).requires.1.0)
-
--- the call that a turn belongs to
-abbrev ran : tie.In-loop-i invariant-loop decreases-loop → tie.Start invariant-loop decreases-loop
-ran c = start c.before.before
+loop-holds c = rw c.region_span-span.ensures.0 (repainting_start _ _ _ _ c.requires.1.0)
 
 -- what is read is a place of the group
-turn : (c : tie.In-loop-i invariant-loop decreases-loop) → SpanTurn (ran c).args.n c.before.loop-i.i c.before.before.region_span-span.result (ran c).args.work.now c.before.loop-i.work
+turn : (c : tie.In-loop-i invariant-loop decreases-loop) → SpanTurn c.args.n c.loop-i.i c.region_span-span.result c.args.work.now c.loop-i.work
 turn c =
-    let s = ran c in
-    let u = c.before.loop-i.invariant in
-    let ends = c.before.before.region_span-span.ensures in
-    span_turn s.requires.0.1 s.requires.0.0 (group-stretch s.requires.1.0 ends) u.len (λ q l. u.same 2 q (λ z. absurd (omega arith)) (λ z. absurd (omega arith)) l) (omega (arith, ends.0, u.low)) c.loop-i-test.true
+    let u = c.loop-i.invariant in
+    let ends = c.region_span-span.ensures in
+    span_turn c.requires.0.1 c.requires.0.0 (group-stretch c.requires.1.0 ends) u.len (λ q l. u.same 2 q (λ z. absurd (omega arith)) (λ z. absurd (omega arith)) l) (omega (arith, ends.0, u.low)) c.loop-i-test.true
 
 mul-p : tie.Need-overflow_mul-p invariant-loop decreases-loop
 mul-p c = omega (arith, turn c)
@@ -98,25 +90,21 @@ add-i : tie.Need-overflow_step-i invariant-loop decreases-loop
 add-i c = omega (arith, turn c.before)
 
 loop-less : tie.Need-loop-i-smaller invariant-loop decreases-loop
-loop-less c = omega (arith, turn c.before, c.before.loop-i-test.true)
+loop-less c = omega (arith, turn c.before, c.loop-i-test.true)
 
 loop-again : tie.Need-loop-i-preserved invariant-loop decreases-loop
 loop-again c =
-    let i = c.before in
-    let s = ran i in
-    let b = turn i in
-    repainting_on s.args.n s.args.at (paint s) s.args.work.now s.requires.1.0 i.before.loop-i.i i.before.loop-i.work i.before.loop-i.invariant (omega (arith, b.turn, i.before.before.region_span-span.ensures.1))
+    let b = turn c.before in
+    repainting_on c.args.n c.args.at (paint c.before.before.before.before.before.before) c.args.work.now c.requires.1.0 c.loop-i.i c.loop-i.work c.loop-i.invariant (omega (arith, b.turn, c.region_span-span.ensures.1))
     _ _ b.place b.is (omega arith) (omega (arith, b))
 
 same_length : tie.Need-shape_of-work invariant-loop decreases-loop
-same_length c = c.before.loop-i.invariant.len
+same_length c = c.loop-i.invariant.len
 
 returns : tie.Need-returns invariant-loop decreases-loop
 returns c =
-    let e = c.before.before in
-    let s = start e in
-    repainting_end s.args.n s.args.at (paint s) s.args.work.now s.requires.1.0 c.before.loop-i.i c.before.loop-i.work c.before.loop-i.invariant
-    (omega (arith, c.loop-i-test.false, e.region_span-span.ensures.1)) (omega (arith, number s, s.requires.1.1))
+    repainting_end c.args.n c.args.at (paint c.before.before.before.before.before) c.args.work.now c.requires.1.0 c.loop-i.i c.loop-i.work c.loop-i.invariant
+    (omega (arith, c.loop-i-test.false, c.region_span-span.ensures.1)) (omega (arith, number c.before.before.before.before.before, c.requires.1.1))
 
 pub repaint_spec : {M : Type 1} → statement M
 repaint_spec =

@@ -20,32 +20,21 @@ invariant-loop work₀ grid palette by at from n end₀ i₀ i-end work end i = 
 abbrev decreases-loop : tie.decreases-loop-i
 decreases-loop work₀ grid palette by at from n end₀ i₀ i-end work end i = i-end - i
 
-abbrev entered : tie.After-struct_known-1 invariant-loop decreases-loop → tie.Start invariant-loop decreases-loop
-entered c = c.before.before.before
-
 mul-n : tie.Need-overflow_mul-n invariant-loop decreases-loop
-mul-n c = omega (arith, sheet-few (entered c).requires.0.0.sheet)
+mul-n c = omega (arith, sheet-few c.requires.0.0.sheet)
 
 region-span-requires : tie.Need-region_span-span-requires invariant-loop decreases-loop
-region-span-requires c κs = let s = entered c.before in let b = s.requires.0.0.sheet in (b.room, sheet-few b, s.requires.1)
-
-abbrev start : tie.After-region_span-span invariant-loop decreases-loop → tie.Start invariant-loop decreases-loop
-start c = entered c.before.before
+region-span-requires c κs = let b = c.requires.0.0.sheet in (b.room, sheet-few b, c.requires.1)
 
 loop-holds : tie.Need-loop-i-init invariant-loop decreases-loop
-loop-holds c = (met_none (start c).requires.0.0 (λ q l z. omega (arith, z.1, z.2)), omega arith)
-
--- the call that a turn belongs to
-abbrev ran : tie.In-loop-i invariant-loop decreases-loop → tie.Start invariant-loop decreases-loop
-ran c = start c.before.before
+loop-holds c = (met_none c.requires.0.0 (λ q l z. omega (arith, z.1, z.2)), omega arith)
 
 -- what is read is a place of the group
-turn : (c : tie.In-loop-i invariant-loop decreases-loop) → SpanTurn (area_of (ran c).args.grid) c.before.loop-i.i c.before.before.region_span-span.result (ran c).args.work.now c.before.loop-i.work
+turn : (c : tie.In-loop-i invariant-loop decreases-loop) → SpanTurn (area_of c.args.grid) c.loop-i.i c.region_span-span.result c.args.work.now c.loop-i.work
 turn c =
-    let s = ran c in
-    let b = s.requires.0.0.sheet in
-    let u = c.before.loop-i.invariant in
-    span_turn (sheet-few b) b.room (group-stretch s.requires.1 c.before.before.region_span-span.ensures) u.0.len (λ q l. u.0.same 2 q (omega arith) l) u.1 c.loop-i-test.true
+    let b = c.requires.0.0.sheet in
+    let u = c.loop-i.invariant in
+    span_turn (sheet-few b) b.room (group-stretch c.requires.1 c.region_span-span.ensures) u.0.len (λ q l. u.0.same 2 q (omega arith) l) u.1 c.loop-i-test.true
 
 mul-p : tie.Need-overflow_mul-p invariant-loop decreases-loop
 mul-p c = omega (arith, turn c)
@@ -63,31 +52,24 @@ cast-p : tie.Need-overflow_cast-p invariant-loop decreases-loop
 cast-p c = omega (arith, turn c.before)
 
 judge-beside-requires : tie.Need-judge_beside-end-requires invariant-loop decreases-loop
-judge-beside-requires c κs = let i = c.before.before in ((i.before.loop-i.invariant.0.stage, (ran i).requires.0.1), (turn i).place)
-
-abbrev turned : tie.After-judge_beside-end invariant-loop decreases-loop → tie.In-loop-i invariant-loop decreases-loop
-turned c = c.before.before.before
+judge-beside-requires c κs = ((c.loop-i.invariant.0.stage, c.requires.0.1), (turn c.before.before).place)
 
 add-i : tie.Need-overflow_step-i invariant-loop decreases-loop
-add-i c = omega (arith, turn (turned c.before.before))
+add-i c = omega (arith, turn c.before.before.before.before.before)
 
 loop-less : tie.Need-loop-i-smaller invariant-loop decreases-loop
-loop-less c = omega (arith, turn (turned c.before.before))
+loop-less c = omega (arith, turn c.before.before.before.before.before)
 
 loop-again : tie.Need-loop-i-preserved invariant-loop decreases-loop
 loop-again c =
-    let j = c.before.before in
-    let i = turned j in
-    (met_more (ran i).requires.0.0 (λ q l z. within_more z) i.before.loop-i.invariant.0 (rw (turn i).is at j.judge_beside-end.ensures), omega (arith, turn i))
+    (met_more c.requires.0.0 (λ q l z. within_more z) c.loop-i.invariant.0 (rw (turn c.before.before.before.before.before).is at c.judge_beside-end.ensures), omega (arith, turn c.before.before.before.before.before))
 
 same_length : tie.Need-shape_of-work invariant-loop decreases-loop
-same_length c = c.before.loop-i.invariant.0.len
+same_length c = c.loop-i.invariant.0.len
 
 returns : tie.Need-returns invariant-loop decreases-loop
 returns c =
-    let e = c.before.before in
-    let s = start e in
-    met_as (λ q l z. group-within (λ p. adjoins s.args.grid p q ≡ true) s.requires.1 e.region_span-span.ensures c.loop-i-test.false z) c.before.loop-i.invariant.0
+    met_as (λ q l z. group-within (λ p. adjoins c.args.grid p q ≡ true) c.requires.1 c.region_span-span.ensures c.loop-i-test.false z) c.loop-i.invariant.0
 
 pub judge_around_spec : {M : Type 1} → statement M
 judge_around_spec =

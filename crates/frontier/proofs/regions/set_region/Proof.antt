@@ -15,28 +15,20 @@ abbrev decreases-loop : tie.decreases-loop-i
 decreases-loop work₀ n at j v base i₀ i-end work i = i-end - i
 
 region-span-requires : tie.Need-region_span-span-requires invariant-loop decreases-loop
-region-span-requires c κs = let s = c.before.before in (s.requires.1.0, s.requires.1.1, s.requires.0)
-
-abbrev start : tie.After-region_span-span invariant-loop decreases-loop → tie.Start invariant-loop decreases-loop
-start c = c.before.before.before
+region-span-requires c κs = (c.requires.1.0, c.requires.1.1, c.requires.0)
 
 mul-base : tie.Need-overflow_mul-base invariant-loop decreases-loop
-mul-base c = let s = start c in omega (arith, in_plane s.args.n s.args.j s.args.at s.requires.1.2 s.requires.0.label, s.requires.1.1)
+mul-base c = omega (arith, in_plane c.args.n c.args.j c.args.at c.requires.1.2 c.requires.0.label, c.requires.1.1)
 
 loop-holds : tie.Need-loop-i-init invariant-loop decreases-loop
-loop-holds c = rw c.region_span-span.ensures.0 (setting_start _ _ _ _ _ (start c).requires.0)
-
--- the call that a turn belongs to
-abbrev ran : tie.In-loop-i invariant-loop decreases-loop → tie.Start invariant-loop decreases-loop
-ran c = start c.before.before
+loop-holds c = rw c.region_span-span.ensures.0 (setting_start _ _ _ _ _ c.requires.0)
 
 -- what is read is a place of the group
-turn : (c : tie.In-loop-i invariant-loop decreases-loop) → SpanTurn (ran c).args.n c.before.loop-i.i c.before.before.region_span-span.result (ran c).args.work.now c.before.loop-i.work
+turn : (c : tie.In-loop-i invariant-loop decreases-loop) → SpanTurn c.args.n c.loop-i.i c.region_span-span.result c.args.work.now c.loop-i.work
 turn c =
-    let s = ran c in
-    let u = c.before.loop-i.invariant in
-    let ends = c.before.before.region_span-span.ensures in
-    span_turn s.requires.1.1 s.requires.1.0 (group-stretch s.requires.0 ends) u.len (λ q l. u.others 2 q (λ z. ⊎_elim (λ y. absurd (omega arith)) (λ y. absurd (omega arith)) s.requires.1.3) l) (omega (arith, ends.0, u.low)) c.loop-i-test.true
+    let u = c.loop-i.invariant in
+    let ends = c.region_span-span.ensures in
+    span_turn c.requires.1.1 c.requires.1.0 (group-stretch c.requires.0 ends) u.len (λ q l. u.others 2 q (λ z. ⊎_elim (λ y. absurd (omega arith)) (λ y. absurd (omega arith)) c.requires.1.3) l) (omega (arith, ends.0, u.low)) c.loop-i-test.true
 
 mul-p : tie.Need-overflow_mul-p invariant-loop decreases-loop
 mul-p c = omega (arith, turn c)
@@ -54,8 +46,8 @@ cast-p : tie.Need-overflow_cast-p invariant-loop decreases-loop
 cast-p c = omega (arith, turn c.before)
 
 -- where it is written
-spot : (c : tie.In-loop-i invariant-loop decreases-loop) → (ran c).args.j * (ran c).args.n + get_or c.before.loop-i.work (2 * (ran c).args.n + c.before.loop-i.i) 0 < 8 * (ran c).args.n
-spot c = let s = ran c in in_plane s.args.n s.args.j _ s.requires.1.2 (turn c).place
+spot : (c : tie.In-loop-i invariant-loop decreases-loop) → c.args.j * c.args.n + get_or c.loop-i.work (2 * c.args.n + c.loop-i.i) 0 < 8 * c.args.n
+spot c = in_plane c.args.n c.args.j _ c.requires.1.2 (turn c).place
 
 add-work : tie.Need-overflow_add-work invariant-loop decreases-loop
 add-work c = omega (arith, turn c.before, spot c.before)
@@ -70,25 +62,21 @@ add-i : tie.Need-overflow_step-i invariant-loop decreases-loop
 add-i c = omega (arith, turn c.before)
 
 loop-less : tie.Need-loop-i-smaller invariant-loop decreases-loop
-loop-less c = omega (arith, turn c.before, c.before.loop-i-test.true)
+loop-less c = omega (arith, turn c.before, c.loop-i-test.true)
 
 loop-again : tie.Need-loop-i-preserved invariant-loop decreases-loop
 loop-again c =
-    let i = c.before in
-    let s = ran i in
-    let b = turn i in
-    setting_on s.args.n s.args.at s.args.j s.args.v s.args.work.now s.requires.0 i.before.loop-i.i i.before.loop-i.work i.before.loop-i.invariant (omega (arith, b.turn, i.before.before.region_span-span.ensures.1))
-    _ _ b.place b.is (omega arith) (omega (arith, b, spot i))
+    let b = turn c.before in
+    setting_on c.args.n c.args.at c.args.j c.args.v c.args.work.now c.requires.0 c.loop-i.i c.loop-i.work c.loop-i.invariant (omega (arith, b.turn, c.region_span-span.ensures.1))
+    _ _ b.place b.is (omega arith) (omega (arith, b, spot c.before))
 
 same_length : tie.Need-shape_of-work invariant-loop decreases-loop
-same_length c = c.before.loop-i.invariant.len
+same_length c = c.loop-i.invariant.len
 
 returns : tie.Need-returns invariant-loop decreases-loop
 returns c =
-    let e = c.before.before in
-    let s = start e in
-    setting_end s.args.n s.args.at s.args.j s.args.v s.args.work.now s.requires.0 c.before.loop-i.i c.before.loop-i.work c.before.loop-i.invariant
-    (omega (arith, c.loop-i-test.false, e.region_span-span.ensures.1))
+    setting_end c.args.n c.args.at c.args.j c.args.v c.args.work.now c.requires.0 c.loop-i.i c.loop-i.work c.loop-i.invariant
+    (omega (arith, c.loop-i-test.false, c.region_span-span.ensures.1))
 
 pub set_region_spec : {M : Type 1} → statement M
 set_region_spec =

@@ -19,37 +19,32 @@ abbrev decreases-loop : tie.decreases-loop-y
 decreases-loop cells work₀ start stride h w y₀ work y = h - y
 
 loop-holds : tie.Need-loop-y-init invariant-loop decreases-loop
-loop-holds c = let a = c.before.args in (omega arith, refl, filled-to 0 (0 * a.w) _ _ _ (sym (zero-mul a.w)) (filled_none _ _), paints_to (sym (zero-mul a.w)) (paints_none _))
+loop-holds c = let a = c.args in (omega arith, refl, filled-to 0 (0 * a.w) _ _ _ (sym (zero-mul a.w)) (filled_none _ _), paints_to (sym (zero-mul a.w)) (paints_none _))
 
 load-row-requires : tie.Need-load_row-requires invariant-loop decreases-loop
-load-row-requires c κs = let i = c.before in (same_tile i.before.before.before.requires refl i.before.loop-y.invariant.1, i.loop-y-test.true)
-
-abbrev looped : tie.After-slice_known-in-loop-y-1 invariant-loop decreases-loop → tie.In-loop-y invariant-loop decreases-loop
-looped c = c.before.before.before.before
+load-row-requires c κs = (same_tile c.requires refl c.loop-y.invariant.1, c.loop-y-test.true)
 
 add-y : tie.Need-overflow_step-y invariant-loop decreases-loop
-add-y c = let i = looped c in omega (arith, i.loop-y-test.true, i.before.before.before.requires.rows)
+add-y c = omega (arith, c.loop-y-test.true, c.requires.rows)
 
 loop-less : tie.Need-loop-y-smaller invariant-loop decreases-loop
-loop-less c = omega (arith, (looped c).loop-y-test.true)
+loop-less c = omega (arith, c.loop-y-test.true)
 
 loop-again : tie.Need-loop-y-preserved invariant-loop decreases-loop
 loop-again c =
-    let r = c.before.before in
-    let i = looped c in
-    let v = i.before.loop-y.invariant in
-    (omega (arith, i.loop-y-test.true), r.load_row.auto.1.0 ∙ v.1, r.load_row.ensures.0 _ v.2, r.load_row.ensures.1 v.3)
+    let v = c.loop-y.invariant in
+    (omega (arith, c.loop-y-test.true), c.load_row.auto.work ∙ v.1, c.load_row.ensures.0 _ v.2, c.load_row.ensures.1 v.3)
 
 same_length : tie.Need-shape_of-work invariant-loop decreases-loop
-same_length c = c.before.loop-y.invariant.1
+same_length c = c.loop-y.invariant.1
 
 returns : tie.Need-returns invariant-loop decreases-loop
 returns c =
-    let v = c.before.loop-y.invariant in
-    let s = c.before.before.before.args in
-    let e : c.before.loop-y.y ≡ s.h = omega (arith, v.0, c.loop-y-test.false) in
-    let d : c.before.loop-y.y * s.w ≡ s.h * s.w = ap (λ (k : ℕ). k * s.w) e in
-    (filled-to (c.before.loop-y.y * s.w) (s.h * s.w) _ _ _ d v.2, paints_to d v.3)
+    let v = c.loop-y.invariant in
+    let s = c.args in
+    let e : c.loop-y.y ≡ s.h = omega (arith, v.0, c.loop-y-test.false) in
+    let d : c.loop-y.y * s.w ≡ s.h * s.w = ap (λ (k : ℕ). k * s.w) e in
+    (filled-to (c.loop-y.y * s.w) (s.h * s.w) _ _ _ d v.2, paints_to d v.3)
 
 pub load_spec : {M : Type 1} → statement M
 load_spec =

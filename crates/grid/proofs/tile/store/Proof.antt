@@ -18,42 +18,34 @@ decreases-loop work cells₀ start stride h w y₀ cells y = h - y
 
 loop-holds : tie.Need-loop-y-init invariant-loop decreases-loop
 loop-holds c =
-    let a = c.before.args in
-    (omega arith, refl, stored-to 0 (0 * a.w) _ _ _ _ _ _ _ (sym (zero-mul a.w)) (store_none a.cells-1.now a.work.now a.start a.stride a.h a.w))
+    let a = c.args in
+    (omega arith, refl, stored-to 0 (0 * a.w) _ _ _ _ _ _ _ (sym (zero-mul a.w)) (store_none a.cells.now a.work.now a.start a.stride a.h a.w))
 
 store-row-requires : tie.Need-store_row-requires invariant-loop decreases-loop
 store-row-requires c κs =
-    let i = c.before in
-    let s = i.before.before.before in
-    (same_tile s.requires.0 i.before.loop-y.invariant.1 refl, (s.requires.1, i.loop-y-test.true))
-
-abbrev looped : tie.After-cells-1 invariant-loop decreases-loop → tie.In-loop-y invariant-loop decreases-loop
-looped c = c.before.before.before
+    (same_tile c.requires.0 c.loop-y.invariant.1 refl, (c.requires.1, c.loop-y-test.true))
 
 add-y : tie.Need-overflow_step-y invariant-loop decreases-loop
-add-y c = let i = looped c in omega (arith, i.loop-y-test.true, i.before.before.before.requires.0.rows)
+add-y c = omega (arith, c.loop-y-test.true, c.requires.0.rows)
 
 loop-less : tie.Need-loop-y-smaller invariant-loop decreases-loop
-loop-less c = omega (arith, (looped c).loop-y-test.true)
+loop-less c = omega (arith, c.loop-y-test.true)
 
 loop-again : tie.Need-loop-y-preserved invariant-loop decreases-loop
 loop-again c =
-    let r = c.before in
-    let i = looped c in
-    let v = i.before.loop-y.invariant in
-    (omega (arith, i.loop-y-test.true), r.store_row.auto.1.0 ∙ v.1, r.store_row.ensures _ v.2)
+    let v = c.loop-y.invariant in
+    (omega (arith, c.loop-y-test.true), c.store_row.auto.cells ∙ v.1, c.store_row.ensures _ v.2)
 
 same_length : tie.Need-shape_of-cells invariant-loop decreases-loop
-same_length c = c.before.loop-y.invariant.1
+same_length c = c.loop-y.invariant.1
 
 returns : tie.Need-returns invariant-loop decreases-loop
 returns c =
-    let v = c.before.loop-y.invariant in
-    let s = c.before.before.before in
-    let a = s.args in
-    let e : c.before.loop-y.y ≡ a.h = omega (arith, v.0, c.loop-y-test.false) in
-    stored-to (c.before.loop-y.y * a.w) (a.h * a.w) _ _ _ _ _ _ _ (ap (λ (k : ℕ). k * a.w) e) v.2
-    ∙ store_all a.cells-1.now a.work.now a.start a.stride a.h a.w s.requires.0.within
+    let v = c.loop-y.invariant in
+    let a = c.args in
+    let e : c.loop-y.y ≡ a.h = omega (arith, v.0, c.loop-y-test.false) in
+    stored-to (c.loop-y.y * a.w) (a.h * a.w) _ _ _ _ _ _ _ (ap (λ (k : ℕ). k * a.w) e) v.2
+    ∙ store_all a.cells.now a.work.now a.start a.stride a.h a.w c.requires.0.within
 
 pub store_spec : {M : Type 1} → statement M
 store_spec =

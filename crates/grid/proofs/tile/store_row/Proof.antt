@@ -23,26 +23,23 @@ abbrev decreases-loop : tie.decreases-loop-x
 decreases-loop work cells₀ start stride h w y from to x₀ cells x = w - x
 
 mul-from : tie.Need-overflow_mul-from invariant-loop decreases-loop
-mul-from c = let s = c.before in omega (arith, row_fits s.requires.0 s.args.y s.requires.1.1)
+mul-from c = omega (arith, row_fits c.requires.0 c.args.y c.requires.1.1)
 
 add-from : tie.Need-overflow_add-from invariant-loop decreases-loop
-add-from c = let s = c.before in omega (arith, row_fits s.requires.0 s.args.y s.requires.1.1)
+add-from c = omega (arith, row_fits c.requires.0 c.args.y c.requires.1.1)
 
 mul-to : tie.Need-overflow_mul-to invariant-loop decreases-loop
-mul-to c = let s = c.before in omega (arith, row_fits s.requires.0 s.args.y s.requires.1.1)
+mul-to c = omega (arith, row_fits c.requires.0 c.args.y c.requires.1.1)
 
 loop-holds : tie.Need-loop-x-init invariant-loop decreases-loop
-loop-holds c = let a = c.before.args in (omega arith, refl, λ l e. stored-to (a.y * a.w) (a.y * a.w + 0) _ l _ _ _ _ _ (omega arith) e)
-
-abbrev start : tie.In-loop-x invariant-loop decreases-loop → tie.Start invariant-loop decreases-loop
-start c = c.before.before.before
+loop-holds c = let a = c.args in (omega arith, refl, λ l e. stored-to (a.y * a.w) (a.y * a.w + 0) _ l _ _ _ _ _ (omega arith) e)
 
 abbrev place : tie.In-loop-x invariant-loop decreases-loop → ℕ
-place c = (start c).args.y * (start c).args.w + c.before.loop-x.x
+place c = c.args.y * c.args.w + c.loop-x.x
 
 -- what the needs of arithmetic want
-at_x : (c : tie.In-loop-x invariant-loop decreases-loop) → Bounds (start c).requires.0 (start c).args.y c.before.loop-x.x (start c).requires.1.1 c.loop-x-test.true
-at_x c = bounds (start c).requires.0 (start c).args.y c.before.loop-x.x (start c).requires.1.1 c.loop-x-test.true
+at_x : (c : tie.In-loop-x invariant-loop decreases-loop) → Bounds c.requires.0 c.args.y c.loop-x.x c.requires.1.1 c.loop-x-test.true
+at_x c = bounds c.requires.0 c.args.y c.loop-x.x c.requires.1.1 c.loop-x-test.true
 
 add-i : tie.Need-overflow_add-i invariant-loop decreases-loop
 add-i c = omega (arith, at_x c)
@@ -59,60 +56,55 @@ shared-slice-read-repainted c = omega (arith, at_x c.before)
 mul-repainted-2 : tie.Need-offset_bounds-cells-i invariant-loop decreases-loop
 mul-repainted-2 c = omega (arith, at_x c.before)
 
-room : (c : tie.In-loop-x invariant-loop decreases-loop) → (start c).args.start + (start c).args.y * (start c).args.stride + c.before.loop-x.x < length c.before.loop-x.cells
-room c = omega (arith, at_x c, c.before.loop-x.invariant.1)
+room : (c : tie.In-loop-x invariant-loop decreases-loop) → c.args.start + c.args.y * c.args.stride + c.loop-x.x < length c.loop-x.cells
+room c = omega (arith, at_x c, c.loop-x.invariant.1)
 
 slice-copy-out-repainted : tie.Need-slice_copy_out-repainted invariant-loop decreases-loop
 slice-copy-out-repainted c = room c.before
 
 -- the paint as it is read
-paint_at_lem : (c : tie.In-loop-x invariant-loop decreases-loop) → get_or (start c).args.work.now (place c) 0 ≡ plane ((start c).args.h * (start c).args.w) 0 (start c).args.work.now (place c)
-paint_at_lem c = plane_read ((start c).args.h * (start c).args.w) 0 (place c) (place c) (start c).args.work.now (omega arith)
+paint_at_lem : (c : tie.In-loop-x invariant-loop decreases-loop) → get_or c.args.work.now (place c) 0 ≡ plane (c.args.h * c.args.w) 0 c.args.work.now (place c)
+paint_at_lem c = plane_read (c.args.h * c.args.w) 0 (place c) (place c) c.args.work.now (omega arith)
 
 repainted-requires : tie.Need-repainted-requires invariant-loop decreases-loop
-repainted-requires c κs = let i = c.before.before in let l = (start i).requires.1.0 (place i) (at_x i).on in omega (arith, paint_at_lem i)
-
-abbrev looped : tie.After-repainted invariant-loop decreases-loop → tie.In-loop-x invariant-loop decreases-loop
-looped c = c.before.before.before
+repainted-requires c κs = let l = c.requires.1.0 (place c.before.before) (at_x c.before.before).on in omega (arith, paint_at_lem c.before.before)
 
 mul-t22 : tie.Need-offset_bounds-cells-i-in-loop-x invariant-loop decreases-loop
-mul-t22 c = omega (arith, at_x (looped c))
+mul-t22 c = omega (arith, at_x c.before.before.before)
 
 slice-set-from-cells : tie.Need-bounds-cells-i invariant-loop decreases-loop
-slice-set-from-cells c = room (looped c)
+slice-set-from-cells c = room c.before.before.before
 
 add-x : tie.Need-overflow_step-x invariant-loop decreases-loop
-add-x c = omega (arith, at_x (looped c))
+add-x c = omega (arith, at_x c.before.before.before)
 
 loop-less : tie.Need-loop-x-smaller invariant-loop decreases-loop
-loop-less c = omega (arith, (looped c).loop-x-test.true)
+loop-less c = omega (arith, c.loop-x-test.true)
 
 -- what is stored is the cell repainted
-stored_is : (c : tie.After-repainted invariant-loop decreases-loop) → let i = looped c in let s = (start i).args in
-    to_z w32 (of_z w32 c.repainted.result) ≡ repaint (plane (s.h * s.w) 0 s.work.now (place i)) (get_or i.before.loop-x.cells (s.start + s.y * s.stride + i.before.loop-x.x) (pos 0))
+stored_is : (c : tie.After-repainted invariant-loop decreases-loop) → let s = c.args in
+    to_z w32 (of_z w32 c.repainted.result) ≡ repaint (plane (s.h * s.w) 0 s.work.now (place c.before.before.before)) (get_or c.loop-x.cells (s.start + s.y * s.stride + c.loop-x.x) (pos 0))
 stored_is c =
-    to_z-of_z (record { sfits = c.repainted.type-inv }) ∙ rw (to_z-of_z (record { sfits = c.before.repainted-arg-1.given }), paint_at_lem (looped c)) at c.repainted.ensures
+    to_z-of_z (record { sfits = c.repainted.type_inv }) ∙ rw (to_z-of_z (record { sfits = c.repainted-arg-1.given }), paint_at_lem c.before.before.before) at c.repainted.ensures
 
 loop-again : tie.Need-loop-x-preserved invariant-loop decreases-loop
 loop-again c =
-    let i = looped c in
-    let s = start i in
-    let a = s.args in
-    let v = i.before.loop-x.invariant in (
-      omega (arith, i.loop-x-test.true),
+    let a = c.args in
+    let v = c.loop-x.invariant in (
+      omega (arith, c.loop-x-test.true),
       simp length-set v.1,
-      λ l e. store_next l i.before.loop-x.cells a.work.now a.start a.stride a.h a.w a.y i.before.loop-x.x _
-          (same_tile s.requires.0 v.1 refl) s.requires.1.1 i.loop-x-test.true (v.2 l e) (stored_is c),
+      λ l e. store_next l c.loop-x.cells a.work.now a.start a.stride a.h a.w a.y c.loop-x.x _
+          (same_tile c.requires.0 v.1 refl) c.requires.1.1 c.loop-x-test.true (v.2 l e) (stored_is c),
     )
 
 same_length : tie.Need-shape_of-cells invariant-loop decreases-loop
-same_length c = c.before.loop-x.invariant.1
+same_length c = c.loop-x.invariant.1
 
 returns : tie.Need-returns invariant-loop decreases-loop
 returns c =
-    let s = c.before.before.before.args in
-    let v = c.before.loop-x.invariant in
-    λ l e. stored-to (s.y * s.w + c.before.loop-x.x) ((s.y + 1) * s.w) _ l _ _ _ _ _ (omega (arith, v.0, c.loop-x-test.false, next_row s.y s.w)) (v.2 l e)
+    let s = c.args in
+    let v = c.loop-x.invariant in
+    λ l e. stored-to (s.y * s.w + c.loop-x.x) ((s.y + 1) * s.w) _ l _ _ _ _ _ (omega (arith, v.0, c.loop-x-test.false, next_row s.y s.w)) (v.2 l e)
 
 pub store_row_spec : {M : Type 1} → statement M
 store_row_spec =

@@ -11,21 +11,19 @@ use Rattle.labels.proofs.label.fill.Tie as tie
 
 alone-requires : tie.Need-alone-requires
 alone-requires c κs =
-    let s = c.before.before in
-    let b = s.requires.0.0 in
+    let b = c.requires.0.0 in
     let z = b.flood.filled.sized in
-    (record { rows = z.rows; cols = z.cols; count = z.count; planes = omega (arith, z.planes, seen_size (s.args.g.h * s.args.g.w) s.args.work.now) }, alone_in b)
+    (record { rows = z.rows; cols = z.cols; count = z.count; planes = omega (arith, z.planes, seen_size (c.args.g.h * c.args.g.w) c.args.work.now) }, alone_in b)
 
 same_length : tie.Need-shape_of-work-then-alone
 same_length c = search rules
 
 returns : tie.Need-returns-then-alone
 returns c =
-    let s = c.before.before.before.before in
-    let b = s.requires.0.0 in
-    let a = c.before.alone.ensures c.if-alone.true in
-    let whole = alone_whole b (λ q lq l e same. code_kept s.requires.0.1 s.requires.1 q lq (a.none q l e) (same ∙ alone_paint b s.requires.0.2)) in
-    ((whole, s.requires.0.1), (since_refl _, refl))
+    let b = c.requires.0.0 in
+    let a = c.alone.ensures c.if-alone.true in
+    let whole = alone_whole b (λ q lq l e same. code_kept c.requires.0.1 c.requires.1 q lq (a.none q l e) (same ∙ alone_paint b c.requires.0.2)) in
+    ((whole, c.requires.0.1), (since_refl _, refl))
 
 flood-requires : tie.Need-flood-requires
 flood-requires c κs = search rules

@@ -27,58 +27,49 @@ mul-n : tie.Need-overflow_mul-n invariant-loop decreases-loop
 mul-n c = omega (arith, few c.before)
 
 clear-requires : tie.Need-clear-requires invariant-loop decreases-loop
-clear-requires c κs = let s = c.before.before in ((s.requires.0.planes, few s), s.requires.1)
-
--- where plane 1 is cleared
-abbrev cleared : tie.After-slice_known-2-1 invariant-loop decreases-loop → tie.After-clear invariant-loop decreases-loop
-cleared c = c.before.before
-
-abbrev start : tie.After-slice_known-2-1 invariant-loop decreases-loop → tie.Start invariant-loop decreases-loop
-start c = (cleared c).before.before.before
+clear-requires c κs = ((c.requires.0.planes, few c.before.before), c.requires.1)
 
 -- the sizes are the same once plane 1 is cleared
-sized : (c : tie.After-slice_known-2-1 invariant-loop decreases-loop) → Sized (start c).args.h (start c).args.w (start c).args.steps (seen ((start c).args.h * (start c).args.w) (cleared c).clear.new.work)
+sized : (c : tie.After-slice_known-2-1 invariant-loop decreases-loop) → Sized c.args.h c.args.w c.args.steps (seen (c.args.h * c.args.w) c.clear.new.work)
 sized c =
-    let p = (start c).requires.0 in
-    let l = seen_size ((start c).args.h * (start c).args.w) (cleared c).clear.new.work in
-    record { rows = p.rows; cols = p.cols; count = p.count; planes = omega (arith, p.planes, (cleared c).clear.ensures.size, l) }
+    let p = c.requires.0 in
+    let l = seen_size (c.args.h * c.args.w) c.clear.new.work in
+    record { rows = p.rows; cols = p.cols; count = p.count; planes = omega (arith, p.planes, c.clear.ensures.size, l) }
 
 loop-holds : tie.Need-loop-s-init invariant-loop decreases-loop
 loop-holds c =
-    let k = (cleared c).clear.ensures in
-    (start-filled (sized c) (cleared_blank k), start_passed (sized c) (cleared_blank k), kept_refl _, omega arith, cleared_coded k (start c).requires.1)
+    let k = c.clear.ensures in
+    (start-filled (sized c) (cleared_blank k), start_passed (sized c) (cleared_blank k), kept_refl _, omega arith, cleared_coded k c.requires.1)
 
 begin-requires : tie.Need-begin-t-requires invariant-loop decreases-loop
-begin-requires c κs = let i = c.before in let v = i.before.loop-s.invariant in ((v.0, v.4), (v.1, i.loop-s-test.true))
+begin-requires c κs = let v = c.loop-s.invariant in ((v.0, v.4), (v.1, c.loop-s-test.true))
 
 add-s : tie.Need-overflow_step-s invariant-loop decreases-loop
-add-s c = let i = c.before.before.before.before in omega (arith, i.loop-s-test.true, few (start i.before.before))
+add-s c = omega (arith, c.loop-s-test.true, few c.before.before.before.before.before.before.before.before.before.before.before)
 
 loop-less : tie.Need-loop-s-smaller invariant-loop decreases-loop
-loop-less c = omega (arith, c.before.before.before.before.loop-s-test.true)
+loop-less c = omega (arith, c.loop-s-test.true)
 
 loop-again : tie.Need-loop-s-preserved invariant-loop decreases-loop
 loop-again c =
-    let b = c.before.before in
-    let i = b.before.before in
-    let e = b.begin-t.ensures in
-    (e.0.0, e.1.0, kept_trans i.before.loop-s.invariant.2 e.1.1.kept, omega (arith, i.loop-s-test.true), e.0.1)
+    let e = c.begin-t.ensures in
+    (e.0.0, e.1.0, kept_trans c.loop-s.invariant.2 e.1.1.kept, omega (arith, c.loop-s-test.true), e.0.1)
 
 -- what is kept since the entry, as it is seen
-kept_all : (c : tie.After-loop-s invariant-loop decreases-loop) → let s = (start c.before.before).args in PlanesKept (s.h * s.w) s.work-1.now (seen (s.h * s.w) c.before.loop-s.work)
-kept_all c = kept_trans (cleared_kept (cleared c.before.before).clear.ensures) c.before.loop-s.invariant.2
+kept_all : (c : tie.After-loop-s invariant-loop decreases-loop) → let s = c.args in PlanesKept (s.h * s.w) s.work.now (seen (s.h * s.w) c.loop-s.work)
+kept_all c = kept_trans (cleared_kept c.clear.ensures) c.loop-s.invariant.2
 
 same_length : tie.Need-shape_of-work invariant-loop decreases-loop
-same_length c = let s = (start c.before.before).args in sym (seen_size (s.h * s.w) c.before.loop-s.work) ∙ (kept_all c).size
+same_length c = let s = c.args in sym (seen_size (s.h * s.w) c.loop-s.work) ∙ (kept_all c).size
 
 returns : tie.Need-returns invariant-loop decreases-loop
 returns c =
-    let s = (start c.before.before).args in
+    let s = c.args in
     let m : ℕ = s.h * s.w in
-    let l = c.before.loop-s in
+    let l = c.loop-s in
     let v = l.invariant in
     let done : l.s ≡ m = omega (arith, v.3, c.loop-s-test.false) in
-    subst (λ (x : List ℕ). Labelled (neighbours s.steps s.w) (cells_of m s.work-1.now) m x l.t.regions l.t.taken × PlanesKept m s.work-1.now x)
+    subst (λ (x : List ℕ). Labelled (neighbours s.steps s.w) (cells_of m s.work.now) m x l.t.regions l.t.taken × PlanesKept m s.work.now x)
     (seen_all v.4 (λ p lp. v.1.labelled p (omega arith))) (all_labelled v.0 v.1 done (kept_all c), kept_all c)
 
 pub label_planes_spec : {M : Type 1} → statement M

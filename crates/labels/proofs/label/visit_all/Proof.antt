@@ -77,43 +77,35 @@ add-p c = omega (arith, bounds c.before)
 mul-p-2 : tie.Need-offset_bounds-work-n invariant-loop decreases-loop
 mul-p-2 c = omega (arith, bounds c.before)
 
-abbrev entered : tie.After-slice_known-2-1 invariant-loop decreases-loop → S
-entered c = c.before.before
-
 slice-read-p : tie.Need-bounds-work-n invariant-loop decreases-loop
-slice-read-p c = omega (arith, bounds (entered c))
+slice-read-p c = omega (arith, bounds c.before.before)
 
 cast-p : tie.Need-overflow_cast-p invariant-loop decreases-loop
-cast-p c = omega (arith, bounds (entered c))
+cast-p c = omega (arith, bounds c.before.before)
 
 on-edge-requires : tie.Need-on_edge-border-requires invariant-loop decreases-loop
-on-edge-requires c κs = let s = entered c in let z = s.requires.0.0.filled.sized in ((bounds s).on, z.rows, z.cols)
+on-edge-requires c κs = let z = c.requires.0.0.filled.sized in ((bounds c.before.before).on, z.rows, z.cols)
 
 loop-holds : tie.Need-loop-k-init invariant-loop decreases-loop
 loop-holds c =
-    let s = entered c.before in
-    let a = s.args in
-    (subst (λ (x : ℕ). Turn a.g.h a.g.w a.g.steps (old s) a.from a.head x 0 (old s) a.from) (sym (place_is s)) (turn_start s.requires.0.0 s.requires.0.2 s.requires.1.0), s.requires.0.1, zero-le)
-
-abbrev start : tie.At-loop-k invariant-loop decreases-loop → S
-start c = entered c.before.before
+    let a = c.args in
+    (subst (λ (x : ℕ). Turn a.g.h a.g.w a.g.steps (old c.before.before.before) a.from a.head x 0 (old c.before.before.before) a.from) (sym (place_is c.before.before.before)) (turn_start c.requires.0.0 c.requires.0.2 c.requires.1.0), c.requires.0.1, zero-le)
 
 -- the paint of the place is the code's still
-paint_is : (l : tie.At-loop-k invariant-loop decreases-loop) → let s = start l in plane (n s) 0 (seen (n s) l.loop-k.work) (place s) ≡ s.args.code - 264196
+paint_is : (l : tie.At-loop-k invariant-loop decreases-loop) → plane (n l.before.before.before.before) 0 (seen (n l.before.before.before.before) l.loop-k.work) (place l.before.before.before.before) ≡ l.args.code - 264196
 paint_is l =
-    let s = start l in
-    l.loop-k.invariant.0.since.kept.others 0 (place s) (inl refl) (bounds s).on
-    ∙ ap (plane (n s) 0 (old s)) (place_is s) ∙ s.requires.0.2.alike s.args.head (le_refl _) s.requires.1.0
+    l.loop-k.invariant.0.since.kept.others 0 (place l.before.before.before.before) (inl refl) (bounds l.before.before.before.before).on
+    ∙ ap (plane (n l.before.before.before.before) 0 (old l.before.before.before.before)) (place_is l.before.before.before.before) ∙ l.requires.0.2.alike l.args.head (le_refl _) l.requires.1.0
 
 -- a step is left to take
-more : (c : tie.Else-k-steps invariant-loop decreases-loop) → let l = c.before.before in l.loop-k.k < (start l).args.g.steps
-more c = let l = c.before.before in omega (arith, l.loop-k.invariant.2, c.if-k-steps.false)
+more : (c : tie.Else-k-steps invariant-loop decreases-loop) → c.loop-k.k < c.args.g.steps
+more c = omega (arith, c.loop-k.invariant.2, c.if-k-steps.false)
 
 mul-o : tie.Need-offset_bounds-offsets-k invariant-loop decreases-loop
-mul-o c = omega (arith, c.before.loop-k-test.true)
+mul-o c = omega (arith, c.loop-k-test.true)
 
 array-copy-out-o : tie.Need-bounds-offsets-k invariant-loop decreases-loop
-array-copy-out-o c = omega (arith, c.before.loop-k-test.true)
+array-copy-out-o c = omega (arith, c.loop-k-test.true)
 
 array-copy-out-dy : tie.Need-bounds-o-0 invariant-loop decreases-loop
 array-copy-out-dy c = search rules
@@ -121,60 +113,44 @@ array-copy-out-dy c = search rules
 array-copy-out-dx : tie.Need-bounds-o-1 invariant-loop decreases-loop
 array-copy-out-dx c = search rules
 
--- the turn that took a step
-abbrev took : tie.After-dx-1 invariant-loop decreases-loop → tie.Else-k-steps invariant-loop decreases-loop
-took c = c.before.before.before
-
-abbrev turn : tie.After-dx-1 invariant-loop decreases-loop → tie.In-loop-k invariant-loop decreases-loop
-turn c = (took c).before
-
 -- the offsets as they are handed over
-rows_fit : (c : tie.After-dx-1 invariant-loop decreases-loop) → SFits w32 (rows_of (turn c).before.loop-k.k)
-rows_fit c = record { sfits = c.before.dy-1.given }
+rows_fit : (c : tie.After-dx-1 invariant-loop decreases-loop) → SFits w32 (rows_of c.loop-k.k)
+rows_fit c = record { sfits = c.dy-1.given }
 
-cols_fit : (c : tie.After-dx-1 invariant-loop decreases-loop) → SFits w32 (cols_of (turn c).before.loop-k.k)
+cols_fit : (c : tie.After-dx-1 invariant-loop decreases-loop) → SFits w32 (cols_of c.loop-k.k)
 cols_fit c = record { sfits = c.dx-1.given }
 
 -- what the place's test told
-border : (l : tie.At-loop-k invariant-loop decreases-loop) → l.before.on_edge-border.result ≡ false → let s = start l in Inner s.args.g.h s.args.g.w (place s)
-border l = let s = start l in off_border s.args.g.h s.args.g.w (place s) (bounds s).on l.before.on_edge-border.ensures
+border : (l : tie.At-loop-k invariant-loop decreases-loop) → l.on_edge-border.result ≡ false → Inner l.args.g.h l.args.g.w (place l.before.before.before.before)
+border l = off_border l.args.g.h l.args.g.w (place l.before.before.before.before) (bounds l.before.before.before.before).on l.on_edge-border.ensures
 
 visit-requires : tie.Need-visit-t-requires invariant-loop decreases-loop
 visit-requires c κs =
-    let d = c.before in
-    let l = (turn d).before in
-    let s = start l in
-    let u = l.loop-k.invariant.0 in
+    let u = c.loop-k.invariant.0 in
     let f = u.flood.filled in
-    let o = offset_single l.loop-k.k (omega (arith, (turn d).loop-k-test.true)) in (
-      ((bounds s).on, f.sized.rows, f.sized.cols, omega (arith, f.sized.planes, seen_size (n s) l.loop-k.work)),
+    let o = offset_single c.loop-k.k (omega (arith, c.loop-k-test.true)) in (
+      ((bounds c.before.before.before.before.before.before.before.before.before.before).on, f.sized.rows, f.sized.cols, omega (arith, f.sized.planes, seen_size (n c.before.before.before.before.before.before.before.before.before.before) c.loop-k.work)),
       (
-        (rw (to_z-of_z (rows_fit d)) o.0, rw (to_z-of_z (cols_fit d)) o.1, border l),
+        (rw (to_z-of_z (rows_fit c.before)) o.0, rw (to_z-of_z (cols_fit c.before)) o.1, border c.before.before.before.before.before.before),
         (
-          (f.order.free, u.flood.some, omega (arith, f.under, f.order.free, (bounds s).few)),
-          (l.loop-k.invariant.1, s.requires.1.1),
+          (f.order.free, u.flood.some, omega (arith, f.under, f.order.free, (bounds c.before.before.before.before.before.before.before.before.before.before).few)),
+          (c.loop-k.invariant.1, c.requires.1.1),
         ),
       ),
     )
 
--- the step is taken
-abbrev stepped : tie.After-slice_known-in-loop-k-1 invariant-loop decreases-loop → tie.After-dx-1 invariant-loop decreases-loop
-stepped c = c.before.before.before.before
-
 add-k : tie.Need-overflow_step-k invariant-loop decreases-loop
-add-k c = omega (arith, (turn (stepped c)).loop-k-test.true)
+add-k c = omega (arith, c.loop-k-test.true)
 
 loop-less : tie.Need-loop-k-smaller invariant-loop decreases-loop
-loop-less c = omega (arith, (turn (stepped c)).loop-k-test.true)
+loop-less c = omega (arith, c.loop-k-test.true)
 
 loop-again : tie.Need-loop-k-preserved invariant-loop decreases-loop
 loop-again c =
-    let d = stepped c in
-    let l = (turn d).before in
-    let e = c.before.before.visit-t.ensures in (
-      turn_on l.loop-k.invariant.0 (start l).requires.1.0 (more (took d)) (rw (to_z-of_z (rows_fit d), to_z-of_z (cols_fit d), sym (paint_is l)) at e.0),
+    let e = c.visit-t.ensures in (
+      turn_on c.loop-k.invariant.0 c.requires.1.0 (more c.before.before.before.before.before.before.before) (rw (to_z-of_z (rows_fit c.before.before.before.before), to_z-of_z (cols_fit c.before.before.before.before), sym (paint_is c.before.before.before.before.before.before.before.before.before)) at e.0),
       e.1,
-      omega (arith, more (took d)),
+      omega (arith, more c.before.before.before.before.before.before.before),
     )
 
 -- there are at most eight steps
@@ -182,30 +158,29 @@ few-steps : (s : S) → s.args.g.steps ≤ 8
 few-steps s = ⊎_elim (λ e. omega arith) (λ e. omega arith) s.requires.0.0.filled.sized.count
 
 same_length : tie.Need-shape_of-work-then-k-steps invariant-loop decreases-loop
-same_length c = seen-length _ _ _ c.before.before.loop-k.invariant.0.since.kept.size
+same_length c = seen-length _ _ _ c.loop-k.invariant.0.since.kept.size
 
 -- all steps are taken
 abbrev Ended : tie.At-loop-k invariant-loop decreases-loop → Type 0
 Ended l =
-    let s = start l in
-    let g = s.args.g in
-    let now = seen (n s) l.loop-k.work in
-    (Flood g.h g.w g.steps now (s.args.head + 1) l.loop-k.t × Coded (n s) l.loop-k.work × Tinted (n s) now (s.args.head + 1) l.loop-k.t.true (s.args.code - 264196))
-    × (Since (n s) (old s) now × ((l.loop-k.t.regions ≡ s.args.from.regions) × (s.args.from.true ≤ l.loop-k.t.true)))
+    let g = l.args.g in
+    let now = seen (n l.before.before.before.before) l.loop-k.work in
+    (Flood g.h g.w g.steps now (l.args.head + 1) l.loop-k.t × Coded (n l.before.before.before.before) l.loop-k.work × Tinted (n l.before.before.before.before) now (l.args.head + 1) l.loop-k.t.taken (l.args.code - 264196))
+    × (Since (n l.before.before.before.before) (old l.before.before.before.before) now × ((l.loop-k.t.regions ≡ l.args.from.regions) × (l.args.from.taken ≤ l.loop-k.t.taken)))
 
-ended : (l : tie.At-loop-k invariant-loop decreases-loop) → (start l).args.g.steps ≤ l.loop-k.k → Ended l
+ended : (l : tie.At-loop-k invariant-loop decreases-loop) → l.args.g.steps ≤ l.loop-k.k → Ended l
 ended l z =
     let u = l.loop-k.invariant.0 in
-    ((turn_off u (start l).requires.1.0 z, l.loop-k.invariant.1, record { alike = λ i lo hi. u.alike i (omega arith) hi ∙ paint_is l }), (u.since, (u.regions, u.taken)))
+    ((turn_off u l.requires.1.0 z, l.loop-k.invariant.1, record { alike = λ i lo hi. u.alike i (omega arith) hi ∙ paint_is l }), (u.since, (u.regions, u.taken)))
 
 returns : tie.Need-returns-then-k-steps invariant-loop decreases-loop
 returns c = ended c.before.before (omega (arith, c.if-k-steps.true))
 
 same-length-2 : tie.Need-shape_of-work invariant-loop decreases-loop
-same-length-2 c = seen-length _ _ _ c.before.loop-k.invariant.0.since.kept.size
+same-length-2 c = seen-length _ _ _ c.loop-k.invariant.0.since.kept.size
 
 returns-2 : tie.Need-returns invariant-loop decreases-loop
-returns-2 c = ended c.before (omega (arith, few-steps (start c.before), c.loop-k-test.false))
+returns-2 c = ended c.before (omega (arith, few-steps c.before.before.before.before.before, c.loop-k-test.false))
 
 pub visit_all_spec : {M : Type 1} → statement M
 visit_all_spec =

@@ -25,20 +25,17 @@ enum-known-row c = search rules
 returns : tie.Need-returns-in-Refused
 unfolding dilation_refusal grid_refusal dilation_answer dilation_out
 returns c =
-    let e = rows_hit _ (row 6 _ ∷ []) (filling_some c.before.before.before.grid_refusal.ensures c.before.row-1.given.1) in
+    let e = rows_hit _ (row 6 _ ∷ []) (filling_some c.grid_refusal.ensures c.in-Refused.is) in
     (some_filling e, some_unless _ _ e)
 
 enum_told : tie.Need-enum_told-1
 enum_told c = search rules
 
-abbrev start : tie.In_default → tie.Start
-start c = c.before.before.before.before.before.before
-
 -- rows 1 to 3 refuse nothing
-past_3 : (c : tie.In_default) → let a = (start c).args in grid_refusal a.h a.w (length a.mask.now) (length a.out-1.now) (length a.work-1.now) [] ≡ none
-past_3 c = filling_none c.before.before.grid_refusal.ensures c.enum_told-1.given.1
+past_3 : (c : tie.In_default) → let a = c.args in grid_refusal a.h a.w (length a.mask.now) (length a.out.now) (length a.work.now) [] ≡ none
+past_3 c = filling_none c.grid_refusal.ensures c.in_default.is
 
-fit : (c : tie.In_default) → let a = (start c).args in Room a.h a.w (a.h * a.w) (length a.mask.now) (length a.work-1.now) × (a.h * a.w ≤ length a.out-1.now)
+fit : (c : tie.In_default) → let a = c.args in Room a.h a.w (a.h * a.w) (length a.mask.now) (length a.work.now) × (a.h * a.w ≤ length a.out.now)
 fit c = grid_room (past_3 c)
 
 returns-2 : tie.Need-returns-then-iterations-gt65535
@@ -48,7 +45,7 @@ returns-2 c =
     (some_filling e, some_unless _ _ e)
 
 -- no row refuses
-clear : (c : tie.Else-iterations-gt65535) → let a = (start c.before).args in dilation_refusal a.mask.now a.h a.w a.iterations a.out-1.now (length a.work-1.now) ≡ none
+clear : (c : tie.Else-iterations-gt65535) → let a = c.args in dilation_refusal a.mask.now a.h a.w a.iterations a.out.now (length a.work.now) ≡ none
 unfolding dilation_refusal grid_refusal
 clear c = rows_pass _ (row 6 _ ∷ []) (past_3 c.before) ∙ row_last (row 6 _) (le-ltb _ _ c.if-iterations-gt65535.false)
 
@@ -58,15 +55,11 @@ mul-if2 c = omega (arith, (fit c.before).0.few)
 reach-requires : tie.Need-reach-k-requires
 reach-requires c κs = search rules
 
-abbrev past_6 : tie.After-dilate-arg-then-h-w-gt0-1 → tie.Else-iterations-gt65535
-past_6 c = c.before.before.before.before
-
 dilate-requires : tie.Need-dilate-requires
 dilate-requires c κs =
-    let p = past_6 c in
-    let f = fit p.before in
-    let r = reach-small _ _ _ f.0.high f.0.wide p.if-iterations-gt65535.false in
-    ((f.0.high, f.0.wide, c.before.before.before.if-h-w-gt0.true, omega (arith, r, c.before.before.reach-k.ensures)), (f.0.held, f.1, f.0.free))
+    let f = fit c.before.before.before.before.before in
+    let r = reach-small _ _ _ f.0.high f.0.wide c.if-iterations-gt65535.false in
+    ((f.0.high, f.0.wide, c.if-h-w-gt0.true, omega (arith, r, c.reach-k.ensures)), (f.0.held, f.1, f.0.free))
 
 same_length : tie.Need-shape_of-out
 same_length c = search rules
@@ -77,10 +70,8 @@ same-length-2 c = search rules
 returns-3 : tie.Need-returns-then-h-w-gt0
 unfolding dilation_answer dilation_out
 returns-3 c =
-    let called = c.before.before.before.before in
-    let reached = called.before.before.before in
-    let z = clear (past_6 called.before) in
-    (none_filling z, none_unless _ _ z (rw reached.reach-k.ensures at called.dilate.ensures))
+    let z = clear c.before.before.before.before.before.before.before.before.before in
+    (none_filling z, none_unless _ _ z (rw c.reach-k.ensures at c.dilate.ensures))
 
 returns-4 : tie.Need-returns-else-h-w-gt0
 unfolding dilation_answer dilation_out

@@ -16,31 +16,24 @@ invariant-loop mask h w k work₀ line r hi y₀ work y = Turns y h work₀ work
 abbrev decreases-loop : tie.decreases-loop-y
 decreases-loop mask h w k work₀ line r hi y₀ work y = h - y
 
-abbrev entered : tie.After-fill-arg-1 invariant-loop decreases-loop → tie.Start invariant-loop decreases-loop
-entered c = c.before.before.before
-
--- before the rows are counted
-abbrev start : tie.After-slice_known-2-1 invariant-loop decreases-loop → tie.Start invariant-loop decreases-loop
-start c = entered c.before.before.before
-
-fits : (c : tie.Start invariant-loop decreases-loop) → let a = c.args in Room a.h a.w (length a.work-1.now)
+fits : (c : tie.Start invariant-loop decreases-loop) → let a = c.args in Room a.h a.w (length a.work.now)
 fits c = room _ _ _ c.requires.2 c.requires.4
 
-margin : (c : tie.After-lesser-r invariant-loop decreases-loop) → c.lesser-r.result ≤ (start c.before).args.w
-margin c = let a = (start c.before).args in omega (arith, c.lesser-r.ensures, min-le_right a.k a.w)
+margin : (c : tie.After-lesser-r invariant-loop decreases-loop) → c.lesser-r.result ≤ c.args.w
+margin c = let a = c.args in omega (arith, c.lesser-r.ensures, min-le_right a.k a.w)
 
 -- the row that is counted
-here : (c : tie.In-loop-y invariant-loop decreases-loop) → let a = (start c.before.before.before).args in c.before.loop-y.y * a.w + a.w ≤ a.h * a.w
+here : (c : tie.In-loop-y invariant-loop decreases-loop) → let a = c.args in c.loop-y.y * a.w + a.w ≤ a.h * a.w
 here c = row_below _ _ _ c.loop-y-test.true
 
 fill-requires : tie.Need-fill-requires invariant-loop decreases-loop
-fill-requires c κs = omega (arith, fits (entered c))
+fill-requires c κs = omega (arith, fits c.before.before.before)
 
 add-line : tie.Need-overflow_add-line invariant-loop decreases-loop
 add-line c = omega arith
 
 mul-line : tie.Need-overflow_mul-line invariant-loop decreases-loop
-mul-line c = omega (arith, fits (start c))
+mul-line c = omega (arith, fits c.before.before.before.before.before.before)
 
 lesser-requires : tie.Need-lesser-r-requires invariant-loop decreases-loop
 lesser-requires c κs = tt
@@ -49,37 +42,32 @@ mul-hi : tie.Need-overflow_mul-hi invariant-loop decreases-loop
 mul-hi c = omega (arith, margin c)
 
 add-hi : tie.Need-overflow_add-hi invariant-loop decreases-loop
-add-hi c = omega (arith, margin c, fits (start c.before))
+add-hi c = omega (arith, margin c, fits c.before.before.before.before.before.before.before)
 
 add-hi-2 : tie.Need-overflow_add-hi-2 invariant-loop decreases-loop
-add-hi-2 c = omega (arith, margin c, fits (start c.before))
+add-hi-2 c = omega (arith, margin c, fits c.before.before.before.before.before.before.before)
 
 loop-holds : tie.Need-loop-y-init invariant-loop decreases-loop
-loop-holds c = record { below = omega arith; same = refl; done = counted_none c.before.before.before.fill.ensures }
+loop-holds c = record { below = omega arith; same = refl; done = counted_none c.fill.ensures }
 
 mul_at : tie.Need-overflow_mul-at invariant-loop decreases-loop
 mul_at c = omega (arith, here c)
 
 tally-wide-requires : tie.Need-tally_wide-requires invariant-loop decreases-loop
 tally-wide-requires c κs =
-    let l = c.before in
-    omega (arith, here l, margin l.before.before, fits (start l.before.before.before))
+    omega (arith, here c.before, margin c.before.before.before, fits c.before.before.before.before.before.before.before.before.before.before)
 
 -- counting along the row leaves the rows above
 above : (c : tie.After-tally_wide invariant-loop decreases-loop) →
-    let l = c.before.before in
-    let a = (start l.before.before.before).args in
-    Counted a.mask.now a.w a.k l.before.loop-y.y c.tally_wide.new.work
+    let a = c.args in
+    Counted a.mask.now a.w a.k c.loop-y.y c.tally_wide.new.work
 above c =
-    let l = c.before.before in
-    counted_kept l.before.loop-y.invariant.done (omega (arith, here l, fits (start l.before.before.before))) c.tally_wide.ensures
+    counted_kept c.loop-y.invariant.done (omega (arith, here c.before.before, fits c.before.before.before.before.before.before.before.before.before.before.before)) c.tally_wide.ensures
 
 add-row-requires : tie.Need-add_row-requires invariant-loop decreases-loop
 add-row-requires c κs =
-    let t = c.before.before.before in
-    let l = t.before.before in
-    let small = counted-small (above t) in
-    (omega (arith, here l, margin l.before.before, fits (start l.before.before.before)), λ j m. omega (arith, small j m))
+    let small = counted-small (above c.before.before.before) in
+    (omega (arith, here c.before.before.before.before.before, margin c.before.before.before.before.before.before.before, fits c.before.before.before.before.before.before.before.before.before.before.before.before.before.before), λ j m. omega (arith, small j m))
 
 add-y : tie.Need-overflow_step-y invariant-loop decreases-loop
 add-y c = omega arith
@@ -89,13 +77,10 @@ loop-less c = omega arith
 
 loop-again : tie.Need-loop-y-preserved invariant-loop decreases-loop
 loop-again c =
-    let added = c.before.before in
-    let t = added.before.before.before.before in
-    let l = t.before.before in
     record {
       below = omega arith;
       same = omega arith;
-      done = counted-more l.before.before.lesser-r.ensures (above t) t.tally_wide.ensures added.add_row.ensures;
+      done = counted-more c.lesser-r.ensures (above c.before.before.before.before.before.before) c.tally_wide.ensures c.add_row.ensures;
     }
 
 same_length : tie.Need-shape_of-work invariant-loop decreases-loop
@@ -103,8 +88,8 @@ same_length c = omega arith
 
 returns : tie.Need-returns invariant-loop decreases-loop
 returns c =
-    let all : c.before.loop-y.y ≡ (start c.before.before.before).args.h = omega arith in
-    rw all at c.before.loop-y.invariant.done
+    let all : c.loop-y.y ≡ c.args.h = omega arith in
+    rw all at c.loop-y.invariant.done
 
 pub count_rows_spec : {M : Type 1} → statement M
 count_rows_spec =

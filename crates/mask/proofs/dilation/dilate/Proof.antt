@@ -9,15 +9,8 @@ use Rattle.mask.proofs.dilation.dilate.Tie as tie
 count-rows-requires : tie.Need-count_rows-requires
 count-rows-requires c κs = search rules
 
--- where the rows are counted
-abbrev counted : tie.After-store-arg2 → tie.After-count_rows
-counted c = c.before.before.before.before
-
-abbrev start : tie.After-count_rows-arg-1 → tie.Start
-start c = c.before.before.before.before
-
 store-requires : tie.Need-store-requires
-store-requires c κs = let s = start (counted c).before in omega (arith, room _ _ _ s.requires.0.2 s.requires.1.2)
+store-requires c κs = let s = start c in omega (arith, room _ _ _ s.pre.0.2 s.pre.1.2)
 
 same_length : tie.Need-shape_of-out
 same_length c = search rules
@@ -27,8 +20,7 @@ same-length-2 c = search rules
 
 returns : tie.Need-returns
 returns c =
-    let stored = c.before.before in
-    dilation_is _ (omega arith) (counted stored.before).count_rows.ensures stored.store.ensures
+    dilation_is _ (omega arith) c.count_rows.ensures c.store.ensures
 
 pub dilate_spec : {M : Type 1} → statement M
 dilate_spec =

@@ -28,19 +28,16 @@ enum-known-row c = search rules
 returns : tie.Need-returns-in-Refused
 unfolding mask_refusal mask_answer mask_labels labelling
 returns c =
-    let e = filling_some c.before.before.before.grid_refusal.ensures c.before.row-1.given.1 in
+    let e = filling_some c.grid_refusal.ensures c.in-Refused.is in
     (some_unless _ _ e, some_unless _ _ e)
 
 enum_told : tie.Need-enum_told-1
 enum_told c = search rules
 
-abbrev start : tie.In_default → tie.Start
-start c = c.before.before.before.before.before.before
+clear : (c : tie.In_default) → let a = c.args in grid_refusal a.h a.w (length a.mask.now) (length a.labels.now) (length a.work.now) [] ≡ none
+clear c = filling_none c.grid_refusal.ensures c.in_default.is
 
-clear : (c : tie.In_default) → let a = (start c).args in grid_refusal a.h a.w (length a.mask.now) (length a.labels-1.now) (length a.work-1.now) [] ≡ none
-clear c = filling_none c.before.before.grid_refusal.ensures c.enum_told-1.given.1
-
-fit : (c : tie.In_default) → let a = (start c).args in Room a.h a.w (a.h * a.w) (length a.mask.now) (length a.work-1.now) × (a.h * a.w ≤ length a.labels-1.now)
+fit : (c : tie.In_default) → let a = c.args in Room a.h a.w (a.h * a.w) (length a.mask.now) (length a.work.now) × (a.h * a.w ≤ length a.labels.now)
 fit c = grid_room (clear c)
 
 mul-n : tie.Need-overflow_mul-n
@@ -49,16 +46,12 @@ mul-n c = omega (arith, (fit c).0.few)
 paint-requires : tie.Need-paint-requires
 paint-requires c κs = let f = fit c.before in (f.0.held, omega (arith, f.0.free))
 
-abbrev painting : tie.After-label_into-arg-2-1 → tie.After-paint
-painting c = c.before.before.before.before
-
 label-into-requires : tie.Need-label_into-count-requires
 label-into-requires c κs =
-    let p = painting c in
-    let a = (start p.before.before).args in
-    let f = fit p.before.before in (
-      (record { rows = omega (arith, f.0.high); cols = omega (arith, f.0.wide); count = search (inl, inr); planes = omega (arith, f.0.free, p.paint.kept.1.1.0) }, f.1),
-      bits_small a.mask.now a.work-1.now p.paint.last.1.1.0 (a.h * a.w) p.paint.ensures,
+    let a = c.args in
+    let f = fit c.before.before.before.before.before.before in (
+      (record { rows = omega (arith, f.0.high); cols = omega (arith, f.0.wide); count = search (inl, inr); planes = omega (arith, f.0.free, c.paint.kept.1.1.0) }, f.1),
+      bits_small a.mask.now a.work.now c.paint.new.work (a.h * a.w) c.paint.ensures,
     )
 
 same_length : tie.Need-shape_of-labels
@@ -68,20 +61,18 @@ same-length-2 : tie.Need-shape_of-work
 same-length-2 c = search rules
 
 -- plane 0 once it is painted
-painted : (c : tie.After-paint) → let a = (start c.before.before).args in Painted (mask_cells (take (a.h * a.w) a.mask.now)) (a.h * a.w) c.paint.new.work
+painted : (c : tie.After-paint) → let a = c.args in Painted (mask_cells (take (a.h * a.w) a.mask.now)) (a.h * a.w) c.paint.new.work
 painted c =
-    let a = (start c.before.before).args in
-    subst (Painted (mask_cells (take (a.h * a.w) a.mask.now)) (a.h * a.w)) (sym c.paint.ensures) (mask_painted a.mask.now a.work-1.now (a.h * a.w) (fit c.before.before).0.held)
+    let a = c.args in
+    subst (Painted (mask_cells (take (a.h * a.w) a.mask.now)) (a.h * a.w)) (sym c.paint.ensures) (mask_painted a.mask.now a.work.now (a.h * a.w) (fit c.before.before).0.held)
 
 returns-2 : tie.Need-returns
 unfolding mask_refusal mask_answer mask_labels labelling
 returns-2 c =
-    let i = c.before.before.before.before in
-    let p = painting i.before in
-    let s = painted p in
-    let e = neighbours-four (start p.before.before).args.w refl in
-    let z = clear p.before.before in
-    (none_unless _ _ z (ap Regions (i.label_into-count.ensures.0 ∙ painted-regions s e)), none_unless _ _ z (i.label_into-count.ensures.1 ∙ painted_labels s e _))
+    let s = painted c.before.before.before.before.before.before.before.before.before in
+    let e = neighbours-four c.args.w refl in
+    let z = clear c.before.before.before.before.before.before.before.before.before.before.before in
+    (none_unless _ _ z (ap Regions (c.label_into-count.ensures.0 ∙ painted-regions s e)), none_unless _ _ z (c.label_into-count.ensures.1 ∙ painted_labels s e _))
 
 pub label4_spec : {M : Type 1} → statement M
 label4_spec =

@@ -12,37 +12,31 @@ use Rattle.orphans.proofs.passing.first_pass.Statement.{statement}
 use Rattle.orphans.proofs.passing.first_pass.Tie as tie
 
 -- the planes as the pass finds them
-between : (s : tie.Start) → let a = s.args in BetweenPasses (rule_of a.grid a.by a.palette.now) a.grid a.by.k 0 a.work-1.now
+between : (s : tie.Start) → let a = s.args in BetweenPasses (rule_of a.grid a.by a.palette.now) a.grid a.by.k 0 a.work.now
 between s = start_between s.args.palette.now s.requires.0
 
 judge-all-requires : tie.Need-judge_all-mid-requires
-judge-all-requires c κs = let s = c.before.before.before in (((between s).stage, s.requires.1), groups_at-start s.args.palette.now s.requires.0)
-
-abbrev start : tie.After-judge_all-mid → tie.Start
-start c = c.before.before.before.before
+judge-all-requires c κs = (((between c.before.before.before).stage, c.requires.1), groups_at-start c.args.palette.now c.requires.0)
 
 -- every fate is told
-all_judged : (c : tie.After-judge_all-mid) → let a = (start c).args in AllJudged (rule_of a.grid a.by a.palette.now) a.grid a.by.k 0 c.judge_all-mid.result a.work-1.now c.judge_all-mid.new.work
-all_judged c = let s = start c in first_all_judged s.args.palette.now s.requires.0 c.judge_all-mid.ensures
+all_judged : (c : tie.After-judge_all-mid) → let a = c.args in AllJudged (rule_of a.grid a.by a.palette.now) a.grid a.by.k 0 c.judge_all-mid.result a.work.now c.judge_all-mid.new.work
+all_judged c = first_all_judged c.args.palette.now c.requires.0 c.judge_all-mid.ensures
 
 same_length : tie.Need-shape_of-work-then-mid-eq0
 same_length c = search rules
 
 returns : tie.Need-returns-then-mid-eq0
-returns c = let j = c.before.before.before in made-idle (between (start j)) (all_judged j) c.if-mid-eq0.true
+returns c = made-idle (between c.before.before.before.before.before.before.before) (all_judged c.before.before.before) c.if-mid-eq0.true
 
 grow-requires : tie.Need-grow-requires
-grow-requires c κs = let j = c.before.before.before.before in decided (between (start j)) (all_judged j)
+grow-requires c κs = decided (between c.before.before.before.before.before.before.before.before) (all_judged c.before.before.before.before)
 
 same-length-2 : tie.Need-shape_of-work
 same-length-2 c = search rules
 
 returns-2 : tie.Need-returns
 returns-2 c =
-    let g = c.before.before in
-    let e = g.before.before in
-    let j = e.before.before.before in
-    made-on (between (start j)) (all_judged j) (omega (arith, e.if-mid-eq0.false, (all_judged j).judged.log.rises)) g.grow.ensures
+    made-on (between c.before.before.before.before.before.before.before.before.before.before.before) (all_judged c.before.before.before.before.before.before.before) (omega (arith, c.if-mid-eq0.false, (all_judged c.before.before.before.before.before.before.before).judged.log.rises)) c.grow.ensures
 
 pub first_pass_spec : {M : Type 1} → statement M
 first_pass_spec = tie.close (tie.spec

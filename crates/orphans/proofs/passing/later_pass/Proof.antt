@@ -10,33 +10,27 @@ use Rattle.orphans.proofs.passing.later_pass.Statement.{statement}
 use Rattle.orphans.proofs.passing.later_pass.Tie as tie
 
 judge-frontier-requires : tie.Need-judge_frontier-mid-requires
-judge-frontier-requires c κs = let s = c.before.before.before in ((s.requires.0.between.stage, s.requires.1), s.requires.0.groups)
-
-abbrev start : tie.After-judge_frontier-mid → tie.Start
-start c = c.before.before.before.before
+judge-frontier-requires c κs = ((c.requires.0.between.stage, c.requires.1), c.requires.0.groups)
 
 -- every fate is told
-all_judged : (c : tie.After-judge_frontier-mid) → let a = (start c).args in AllJudged (rule_of a.grid a.by a.palette.now) a.grid a.by.k a.end c.judge_frontier-mid.result a.work-1.now c.judge_frontier-mid.new.work
-all_judged c = frontier_all_judged (start c).requires.0 c.judge_frontier-mid.ensures
+all_judged : (c : tie.After-judge_frontier-mid) → let a = c.args in AllJudged (rule_of a.grid a.by a.palette.now) a.grid a.by.k a.end c.judge_frontier-mid.result a.work.now c.judge_frontier-mid.new.work
+all_judged c = frontier_all_judged c.requires.0 c.judge_frontier-mid.ensures
 
 same_length : tie.Need-shape_of-work-then-mid-end
 same_length c = search rules
 
 returns : tie.Need-returns-then-mid-end
-returns c = let j = c.before.before.before in made-idle (start j).requires.0.between (all_judged j) c.if-mid-end.true
+returns c = made-idle c.requires.0.between (all_judged c.before.before.before) c.if-mid-end.true
 
 grow-requires : tie.Need-grow-requires
-grow-requires c κs = let j = c.before.before.before.before in decided (start j).requires.0.between (all_judged j)
+grow-requires c κs = decided c.requires.0.between (all_judged c.before.before.before.before)
 
 same-length-2 : tie.Need-shape_of-work
 same-length-2 c = search rules
 
 returns-2 : tie.Need-returns
 returns-2 c =
-    let g = c.before.before in
-    let e = g.before.before in
-    let j = e.before.before.before in
-    made-on (start j).requires.0.between (all_judged j) (omega (arith, e.if-mid-end.false, (all_judged j).judged.log.rises)) g.grow.ensures
+    made-on c.requires.0.between (all_judged c.before.before.before.before.before.before.before) (omega (arith, c.if-mid-end.false, (all_judged c.before.before.before.before.before.before.before).judged.log.rises)) c.grow.ensures
 
 pub later_pass_spec : {M : Type 1} → statement M
 later_pass_spec = tie.close (tie.spec

@@ -27,21 +27,20 @@ padded-cell-requires : tie.Need-padded_cell-c-requires
 padded-cell-requires c κs = search rules
 
 mul-c : tie.Need-offset_bounds-cells-p
-mul-c c = record { fits = omega (arith, on c.before.before) }
+mul-c c = record { fits = omega (arith, on c.before) }
 
 slice-set-from-c : tie.Need-bounds-cells-p
 slice-set-from-c c =
-    let s = c.before.before in
-    omega (arith, (on s).0, s.requires.0.2)
+    omega (arith, (on c.before).0, c.requires.0.2)
 
 same_length : tie.Need-shape_of-cells
 same_length c = search rules
 
 returns : tie.Need-returns
 returns c =
-    let a = c.before.before.args in
+    let a = c.args in
     ap (set a.cells.now (a.y * (a.w + 2) + a.x))
-    (to_z-of_z {w = w32} {z = c.padded_cell-c.result} (record { sfits = c.padded_cell-c.type-inv }) ∙ c.padded_cell-c.ensures ∙ cell-padded _ _ _ _ _ c.before.before.requires.1.1)
+    (to_z-of_z {w = w32} {z = c.padded_cell-c.result} (record { sfits = c.padded_cell-c.type_inv }) ∙ c.padded_cell-c.ensures ∙ cell-padded _ _ _ _ _ c.requires.1.1)
 
 pub pad_cell_spec : {M : Type 1} → statement M
 pad_cell_spec =

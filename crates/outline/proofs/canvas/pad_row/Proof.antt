@@ -21,9 +21,8 @@ loop-holds c = (omega arith, omega arith, span_none _ _ _ _)
 
 pad-cell-requires : tie.Need-pad_cell-requires invariant-loop decreases-loop
 pad-cell-requires c κs =
-    let l = c.before.before in
-    let s = l.before.requires in
-    ((s.0.0, s.0.1, omega (arith, l.loop-x.invariant.2.size, s.0.2)), (s.1, omega arith))
+    let s = c.requires in
+    ((s.0.0, s.0.1, omega (arith, c.loop-x.invariant.2.size, s.0.2)), (s.1, omega arith))
 
 add-x : tie.Need-overflow_step-x invariant-loop decreases-loop
 add-x c = omega arith
@@ -33,37 +32,27 @@ loop-less c = omega arith
 
 loop-again : tie.Need-loop-x-preserved invariant-loop decreases-loop
 loop-again c =
-    let r = c.before in
-    let l = r.before.before.before in
-    let s = l.before.requires in
-    (omega arith, omega arith, rw r.pad_cell.ensures (pad_more _ _ _ _ l.loop-x.invariant.2 s.1 s.0.2 l.loop-x.invariant.0 (omega arith)))
+    let s = c.requires in
+    (omega arith, omega arith, rw c.pad_cell.ensures (pad_more _ _ _ _ c.loop-x.invariant.2 s.1 s.0.2 c.loop-x.invariant.0 (omega arith)))
 
 pad-cell-requires-2 : tie.Need-pad_cell-requires-2 invariant-loop decreases-loop
 pad-cell-requires-2 c κs =
-    let l = c.before.before in
-    let s = l.before.requires in
-    ((s.0.0, s.0.1, omega (arith, l.loop-x.invariant.2.size, s.0.2)), (s.1, omega arith))
+    let s = c.requires in
+    ((s.0.0, s.0.1, omega (arith, c.loop-x.invariant.2.size, s.0.2)), (s.1, omega arith))
 
 pad-cell-requires-3 : tie.Need-pad_cell-requires-3 invariant-loop decreases-loop
 pad-cell-requires-3 c κs =
-    let t = c.before.before in
-    let l = t.before.before.before in
-    let s = l.before.requires in
-    ((s.0.0, s.0.1, omega (arith, t.pad_cell-2.auto.0, l.loop-x.invariant.2.size, s.0.2)), (s.1, omega arith))
+    let s = c.requires in
+    ((s.0.0, s.0.1, omega (arith, c.pad_cell-2.auto.cells, c.loop-x.invariant.2.size, s.0.2)), (s.1, omega arith))
 
 same_length : tie.Need-shape_of-cells invariant-loop decreases-loop
 same_length c =
-    let u = c.before in
-    let t = u.before.before.before in
-    u.pad_cell-3.auto.0 ∙ t.pad_cell-2.auto.0 ∙ t.before.before.before.loop-x.invariant.2.size
+    c.pad_cell-3.auto.cells ∙ c.pad_cell-2.auto.cells ∙ c.loop-x.invariant.2.size
 
 returns : tie.Need-returns invariant-loop decreases-loop
 returns c =
-    let u = c.before in
-    let t = u.before.before.before in
-    let l = t.before.before.before in
-    let s = l.before.requires in
-    pad_ends _ _ _ _ l.loop-x.invariant.2 s.1 s.0.2 (omega arith) _ _ t.pad_cell-2.ensures u.pad_cell-3.ensures
+    let s = c.requires in
+    pad_ends _ _ _ _ c.loop-x.invariant.2 s.1 s.0.2 (omega arith) _ _ c.pad_cell-2.ensures c.pad_cell-3.ensures
 
 pub pad_row_spec : {M : Type 1} → statement M
 pad_row_spec =

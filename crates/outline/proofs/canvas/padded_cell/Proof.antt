@@ -24,10 +24,9 @@ on-sheet h w y x n a b r k =
     let l : (y - 1) * w + (x - 1) < h * w = place_in_lem h w (y - 1) (x - 1) (omega arith) (omega arith) in
     record { low = k.0; left = k.2; held = omega arith; fits = omega (arith, area-fits h w a b) }
 
-on : (c : tie.Then-on_sheet) → On c.before.before.args.h c.before.before.args.w c.before.before.args.y c.before.before.args.x (length c.before.before.args.cells.now)
+on : (c : tie.Then-on_sheet) → On c.args.h c.args.w c.args.y c.args.x (length c.args.cells.now)
 on c =
-    let s = c.before.before in
-    on-sheet _ _ _ _ _ s.requires.high s.requires.wide s.requires.room (on-sheet_yes _ _ _ _ (sym c.before.on_sheet.ensures ∙ c.if-on_sheet.true))
+    on-sheet _ _ _ _ _ c.requires.high c.requires.wide c.requires.room (on-sheet_yes _ _ _ _ (sym c.on_sheet.ensures ∙ c.if-on_sheet.true))
 
 on-sheet-requires : tie.Need-on_sheet-requires
 on-sheet-requires c κs = tt
@@ -52,13 +51,12 @@ shared-slice-copy-out-result c = omega (arith, (on c).held)
 
 returns : tie.Need-returns-then-on_sheet
 returns c =
-    let s = c.before.before.before in
-    rw (sym c.before.before.on_sheet.ensures ∙ c.before.if-on_sheet.true)
-    (to_z-of_z {w = w32} {z = get_or s.args.cells.now ((s.args.y - 1) * s.args.w + (s.args.x - 1)) (pos 0)} (record { sfits = c.result-1.given })
-    ∙ read_at s.args.cells.now ((s.args.y - 1) * s.args.w + (s.args.x - 1)) (on c.before).held)
+    rw (sym c.on_sheet.ensures ∙ c.if-on_sheet.true)
+    (to_z-of_z {w = w32} {z = get_or c.args.cells.now ((c.args.y - 1) * c.args.w + (c.args.x - 1)) (pos 0)} (record { sfits = c.result-1.given })
+    ∙ read_at c.args.cells.now ((c.args.y - 1) * c.args.w + (c.args.x - 1)) (on c.before).held)
 
 returns-2 : tie.Need-returns-else-on_sheet
-returns-2 c = rw (sym c.before.on_sheet.ensures ∙ c.if-on_sheet.false)
+returns-2 c = rw (sym c.on_sheet.ensures ∙ c.if-on_sheet.false)
 
 pub padded_cell_spec : {M : Type 1} → statement M
 padded_cell_spec =

@@ -35,7 +35,7 @@ mul-tinted-2 : tie.Need-offset_bounds-cells-p invariant-loop decreases-loop
 mul-tinted-2 c = record { fits = omega arith }
 
 slice-copy-out-tinted : tie.Need-slice_copy_out-tinted invariant-loop decreases-loop
-slice-copy-out-tinted c = omega (arith, c.before.before.loop-p.invariant.1.size)
+slice-copy-out-tinted c = omega (arith, c.loop-p.invariant.1.size)
 
 tinted-requires : tie.Need-tinted-c-requires invariant-loop decreases-loop
 tinted-requires c κs = tt
@@ -44,7 +44,7 @@ mul-c : tie.Need-offset_bounds-cells-p-in-loop-p invariant-loop decreases-loop
 mul-c c = record { fits = omega arith }
 
 slice-set-from-c : tie.Need-bounds-cells-p invariant-loop decreases-loop
-slice-set-from-c c = omega (arith, c.before.before.before.before.loop-p.invariant.1.size)
+slice-set-from-c c = omega (arith, c.loop-p.invariant.1.size)
 
 add-p : tie.Need-overflow_step-p invariant-loop decreases-loop
 add-p c = record { fits = omega arith }
@@ -54,24 +54,22 @@ loop-less c = omega arith
 
 loop-again : tie.Need-loop-p-preserved invariant-loop decreases-loop
 loop-again c =
-    let l = c.before.before.before.before in
-    let s = l.before.before in
-    let h : l.loop-p.p < length s.args.cells.now = omega arith in
-    let old : to_z w32 (of_z w32 (get_or l.loop-p.cells l.loop-p.p (pos 0))) ≡ at l.loop-p.cells l.loop-p.p =
-    to_z-of_z {w = w32} {z = get_or l.loop-p.cells l.loop-p.p (pos 0)} (record { sfits = c.before.tinted-arg-1.given }) ∙ read_at l.loop-p.cells l.loop-p.p (omega (arith, l.loop-p.invariant.1.size)) in
-    let new : to_z w32 s.args.index ≡ pos s.args.index = to_z_pos w32 {n = s.args.index} (omega arith) in (
+    let h : c.loop-p.p < length c.args.cells.now = omega arith in
+    let old : to_z w32 (of_z w32 (get_or c.loop-p.cells c.loop-p.p (pos 0))) ≡ at c.loop-p.cells c.loop-p.p =
+    to_z-of_z {w = w32} {z = get_or c.loop-p.cells c.loop-p.p (pos 0)} (record { sfits = c.tinted-arg-1.given }) ∙ read_at c.loop-p.cells c.loop-p.p (omega (arith, c.loop-p.invariant.1.size)) in
+    let new : to_z w32 c.args.index ≡ pos c.args.index = to_z_pos w32 {n = c.args.index} (omega arith) in (
       omega arith,
-      inks_step l.loop-p.invariant.1 h _ (to_z-of_z {w = w32} {z = c.tinted-c.result} (record { sfits = c.tinted-c.type-inv }) ∙ c.tinted-c.ensures ∙ rw (old, new)),
+      inks_step c.loop-p.invariant.1 h _ (to_z-of_z {w = w32} {z = c.tinted-c.result} (record { sfits = c.tinted-c.type_inv }) ∙ c.tinted-c.ensures ∙ rw (old, new)),
     )
 
 same_length : tie.Need-shape_of-cells invariant-loop decreases-loop
-same_length c = c.before.loop-p.invariant.1.size
+same_length c = c.loop-p.invariant.1.size
 
 returns : tie.Need-returns invariant-loop decreases-loop
 unfolding painted
 returns c =
-    let e : c.before.loop-p.p ≡ c.before.before.before.args.n = omega arith in
-    rw e at c.before.loop-p.invariant.1.cells
+    let e : c.loop-p.p ≡ c.args.n = omega arith in
+    rw e at c.loop-p.invariant.1.cells
 
 pub ink_spec : {M : Type 1} → statement M
 ink_spec =

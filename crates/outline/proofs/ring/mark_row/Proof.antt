@@ -23,9 +23,6 @@ invariant-loop cells h w y marks₀ last x₀ marks x = (1 ≤ x) × (x ≤ w) �
 abbrev decreases-loop : tie.decreases-loop-x
 decreases-loop cells h w y marks₀ last x₀ marks x = w - x
 
-abbrev start : tie.At-loop-x invariant-loop decreases-loop → tie.Start invariant-loop decreases-loop
-start c = c.before.before.before
-
 returns : tie.Need-returns-then-w-eq0 invariant-loop decreases-loop
 returns c = stretch_none _ _ _ _ c.if-w-eq0.true
 
@@ -37,53 +34,40 @@ loop-holds c = (omega arith, omega arith, span_none _ _ _ _)
 
 mark-cell-requires : tie.Need-mark_cell-requires invariant-loop decreases-loop
 mark-cell-requires c κs =
-    let l = c.before.before in
-    let s = (start l).requires in
-    (s.0, (s.1.0, omega arith, omega (arith, l.loop-x.invariant.2.size, s.1.1)))
+    let s = c.requires in
+    (s.0, (s.1.0, omega arith, omega (arith, c.loop-x.invariant.2.size, s.1.1)))
 
 add-x : tie.Need-overflow_step-x invariant-loop decreases-loop
-add-x c = omega (arith, (start c.before.before.before.before.before).requires.0.wide)
+add-x c = omega (arith, c.requires.0.wide)
 
 loop-less : tie.Need-loop-x-smaller invariant-loop decreases-loop
 loop-less c = omega arith
 
 loop-again : tie.Need-loop-x-preserved invariant-loop decreases-loop
 loop-again c =
-    let r = c.before.before in
-    let l = r.before.before.before in
-    let s = start l in
-    (omega arith, omega arith, rw r.mark_cell.ensures (row_more _ _ l.loop-x.invariant.2 l.loop-x.invariant.0 (omega (arith, place_in_lem s.args.h s.args.w s.args.y l.loop-x.x s.requires.1.0 (omega arith), s.requires.1.1)) _ refl))
+    (omega arith, omega arith, rw c.mark_cell.ensures (row_more _ _ c.loop-x.invariant.2 c.loop-x.invariant.0 (omega (arith, place_in_lem c.args.h c.args.w c.args.y c.loop-x.x c.requires.1.0 (omega arith), c.requires.1.1)) _ refl))
 
 mark-cell-requires-2 : tie.Need-mark_cell-requires-2 invariant-loop decreases-loop
 mark-cell-requires-2 c κs =
-    let l = c.before.before in
-    let s = (start l).requires in
-    (s.0, (s.1.0, omega arith, omega (arith, l.loop-x.invariant.2.size, s.1.1)))
+    let s = c.requires in
+    (s.0, (s.1.0, omega arith, omega (arith, c.loop-x.invariant.2.size, s.1.1)))
 
 mark-cell-requires-3 : tie.Need-mark_cell-requires-3 invariant-loop decreases-loop
 mark-cell-requires-3 c κs =
-    let t = c.before.before.before in
-    let l = t.before.before.before in
-    let s = (start l).requires in
-    (s.0, (s.1.0, omega arith, omega (arith, t.mark_cell-2.auto.1.1.1.1.1.0, l.loop-x.invariant.2.size, s.1.1)))
+    let s = c.requires in
+    (s.0, (s.1.0, omega arith, omega (arith, c.mark_cell-2.auto.marks, c.loop-x.invariant.2.size, s.1.1)))
 
 same_length : tie.Need-shape_of-marks invariant-loop decreases-loop
 same_length c =
-    let u = c.before.before in
-    let t = u.before.before.before.before in
-    u.mark_cell-3.auto.1.1.1.1.1.0 ∙ t.mark_cell-2.auto.1.1.1.1.1.0 ∙ t.before.before.before.loop-x.invariant.2.size
+    c.mark_cell-3.auto.marks ∙ c.mark_cell-2.auto.marks ∙ c.loop-x.invariant.2.size
 
 returns-2 : tie.Need-returns invariant-loop decreases-loop
 returns-2 c =
-    let u = c.before.before in
-    let t = u.before.before.before.before in
-    let l = t.before.before.before in
-    let s = start l in
-    let a = s.args in
+    let a = c.args in
     let last = a.y * a.w + (a.w - 1) in
-    u.mark_cell-3.ensures
-    ∙ ap (λ (k : List ℕ). set k last (marked a.cells.now a.h a.w last)) t.mark_cell-2.ensures
-    ∙ row_ends _ _ l.loop-x.invariant.2 l.loop-x.invariant.0 a.w (a.w - 1) (omega arith) (omega arith) (omega arith) (omega (arith, row_fits a.h a.w a.y s.requires.1.0, s.requires.1.1)) _ _ refl refl
+    c.mark_cell-3.ensures
+    ∙ ap (λ (k : List ℕ). set k last (marked a.cells.now a.h a.w last)) c.mark_cell-2.ensures
+    ∙ row_ends _ _ c.loop-x.invariant.2 c.loop-x.invariant.0 a.w (a.w - 1) (omega arith) (omega arith) (omega arith) (omega (arith, row_fits a.h a.w a.y c.requires.1.0, c.requires.1.1)) _ _ refl refl
 
 pub mark_row_spec : {M : Type 1} → statement M
 mark_row_spec =

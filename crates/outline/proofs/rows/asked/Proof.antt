@@ -16,15 +16,15 @@ enum-told-3 c = search rules
 
 returns : tie.Need-returns-in-None
 unfolding asked
-returns c = rw c.enum_told-1.given.1
+returns c = rw c.in-None.is
 
 returns-2 : tie.Need-returns-in-Auto
 unfolding asked
-returns-2 c = rw c.enum_told-in-Auto-1.given.1
+returns-2 c = rw c.in-Auto.is
 
 returns-3 : tie.Need-returns-in-Rgb
 unfolding asked
-returns-3 c = rw c.enum_told-in-Rgb-1.given.1
+returns-3 c = rw c.in-Rgb.is
 
 pub asked_spec : {M : Type 1} → statement M
 asked_spec = tie.close (tie.spec

@@ -1,6 +1,6 @@
 -- `outline::rows::bad_outline` meets its contract. The tests in the order of the code. Assumes nothing.
 use mathlib.Core.Path.{sym, ◌∙◌}
-use borrow.Author.Tests.{not_true, not_false}
+use borrow.Author.Tests.{not-true, not-false}
 use borrow.Author.Rules.{rules}
 use Rattle.rules.specs.Entries.{bad_outline}
 use Rattle.outline.proofs.rows.bad_outline.Statement.{statement}
@@ -11,7 +11,7 @@ asked-requires c κs = search rules
 
 returns : tie.Need-returns-then-not-asked
 unfolding bad_outline
-returns c = rw (sym c.before.asked.ensures ∙ not_true c.before.asked.result c.if-not-asked.true)
+returns c = rw (sym c.asked.ensures ∙ not-true c.asked.result c.if-not-asked.true)
 
 bad-darkening-requires : tie.Need-bad_darkening-requires
 bad-darkening-requires c κs = search rules
@@ -19,8 +19,7 @@ bad-darkening-requires c κs = search rules
 returns-2 : tie.Need-returns
 unfolding bad_outline
 returns-2 c =
-    let a = c.before.before in
-    rw (sym a.asked.ensures ∙ not_false a.asked.result c.before.if-not-asked.false) c.bad_darkening.ensures
+    rw (sym c.asked.ensures ∙ not-false c.asked.result c.if-not-asked.false) c.bad_darkening.ensures
 
 pub bad_outline_spec : {M : Type 1} → statement M
 bad_outline_spec = tie.close (tie.spec

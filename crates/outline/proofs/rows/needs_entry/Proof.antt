@@ -17,15 +17,15 @@ enum-told-3 c = search rules
 
 returns : tie.Need-returns-in-None
 unfolding asked is_auto
-returns c = rw c.enum_told-1.given.1
+returns c = rw c.in-None.is
 
 returns-2 : tie.Need-returns-in-Auto
 unfolding asked is_auto
-returns-2 c = rw c.enum_told-in-Auto-1.given.1
+returns-2 c = rw c.in-Auto.is
 
 returns-3 : tie.Need-returns-in-Rgb
 unfolding asked is_auto
-returns-3 c = rw c.enum_told-in-Rgb-1.given.1
+returns-3 c = rw c.in-Rgb.is
 
 pub needs_entry_spec : {M : Type 1} → statement M
 needs_entry_spec =

@@ -1,6 +1,6 @@
 -- `outline::rows::no_entry` meets its contract. The tests in the order of the code. Assumes nothing.
 use mathlib.Core.Path.{◌≡◌, sym, ◌∙◌}
-use borrow.Author.Tests.{not_true, not_false}
+use borrow.Author.Tests.{not-true, not-false}
 use borrow.Author.Rules.{rules}
 use Rattle.rules.specs.Sheet.{Sheet, sheet_of}
 use Rattle.rules.specs.Outline.{canvas, has_ring}
@@ -8,20 +8,17 @@ use Rattle.outline.proofs.Refusing.{no_entry_lem, some_entry, none_needed, one_n
 use Rattle.outline.proofs.rows.no_entry.Statement.{statement}
 use Rattle.outline.proofs.rows.no_entry.Tie as tie
 
-abbrev start : tie.Else-not-needs_entry → tie.Start
-start c = c.before.before.before
-
 abbrev on : tie.Else-not-needs_entry → Sheet
-on c = canvas (start c).args.padding (sheet_of (start c).args.cells.now (start c).args.h (start c).args.w)
+on c = canvas c.args.padding (sheet_of c.args.cells.now c.args.h c.args.w)
 
-needed : (c : tie.Else-not-needs_entry) → no_entry_lem (start c).args.how (start c).args.k (on c) ≡ has_ring (on c)
+needed : (c : tie.Else-not-needs_entry) → no_entry_lem c.args.how c.args.k (on c) ≡ has_ring (on c)
 needed c =
-    one_needed (start c).args.how (start c).args.k (on c) c.before.before.if-k-ne0.false
-    (sym c.before.needs_entry.ensures ∙ not_false c.before.needs_entry.result c.if-not-needs_entry.false)
+    one_needed c.args.how c.args.k (on c) c.if-k-ne0.false
+    (sym c.needs_entry.ensures ∙ not-false c.needs_entry.result c.if-not-needs_entry.false)
 
 returns : tie.Need-returns-then-k-ne0
 returns c =
-    let s = c.before.args in
+    let s = c.args in
     sym (some_entry s.how s.k (canvas s.padding (sheet_of s.cells.now s.h s.w)) c.if-k-ne0.true)
 
 needs-entry-requires : tie.Need-needs_entry-requires
@@ -29,24 +26,20 @@ needs-entry-requires c κs = search rules
 
 returns-2 : tie.Need-returns-then-not-needs_entry
 returns-2 c =
-    let n = c.before in
-    let s = n.before.before.args in
-    sym (none_needed s.how s.k (canvas s.padding (sheet_of s.cells.now s.h s.w)) n.before.if-k-ne0.false
-    (sym n.needs_entry.ensures ∙ not_true n.needs_entry.result c.if-not-needs_entry.true))
+    let s = c.args in
+    sym (none_needed s.how s.k (canvas s.padding (sheet_of s.cells.now s.h s.w)) c.if-k-ne0.false
+    (sym c.needs_entry.ensures ∙ not-true c.needs_entry.result c.if-not-needs_entry.true))
 
 returns-3 : tie.Need-returns-then-padding
 returns-3 c =
-    let n = c.before.before in
-    let s = n.before.before in
-    sym (needed c.before ∙ ring-padded s.args.padding _ c.if-padding.true s.requires.1)
+    sym (needed c.before ∙ ring-padded c.args.padding _ c.if-padding.true c.requires.1)
 
 has-ring-requires : tie.Need-has_ring-requires
 has-ring-requires c κs = search rules
 
 returns-4 : tie.Need-returns
 returns-4 c =
-    let e = c.before.before in
-    c.has_ring.ensures ∙ sym (needed e ∙ ring_plain (start e).args.padding _ c.before.if-padding.false)
+    c.has_ring.ensures ∙ sym (needed c.before.before ∙ ring_plain c.args.padding _ c.if-padding.false)
 
 pub no_entry_spec : {M : Type 1} → statement M
 no_entry_spec =

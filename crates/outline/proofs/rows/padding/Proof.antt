@@ -2,7 +2,7 @@
 use mathlib.Core.Path.{◌≡◌, sym, ap, ◌∙◌}
 use mathlib.Core.Bool.{Bool, true, ◌&&◌}
 use lib.ListN.{length}
-use borrow.Author.Tests.{not_true, not_false}
+use borrow.Author.Tests.{not-true, not-false}
 use borrow.Author.Rules.{rules}
 use Rattle.rules.specs.Outline.{asked, pads}
 use Rattle.outline.specs.Room.{present}
@@ -14,11 +14,11 @@ present-requires : tie.Need-present-requires
 present-requires c κs = search rules
 
 returns : tie.Need-returns-then-not-present
-returns c = rw (sym c.before.present.ensures ∙ not_true c.before.present.result c.if-not-present.true)
+returns c = rw (sym c.present.ensures ∙ not-true c.present.result c.if-not-present.true)
 
 -- the sheet is there
-is_there : (c : tie.Else-not-present) → let s = c.before.before.args in present s.h s.w (length s.cells.now) ≡ true
-is_there c = sym c.before.present.ensures ∙ not_false c.before.present.result c.if-not-present.false
+is_there : (c : tie.Else-not-present) → let s = c.args in present s.h s.w (length s.cells.now) ≡ true
+is_there c = sym c.present.ensures ∙ not-false c.present.result c.if-not-present.false
 
 touches-edge-requires : tie.Need-touches_edge-requires
 touches-edge-requires c κs = present-sheet _ _ _ (is_there c)
@@ -29,9 +29,8 @@ pads-requires c κs = search rules
 returns-2 : tie.Need-returns
 unfolding pads
 returns-2 c =
-    let t = c.before in
-    let how = t.before.before.before.args.how in
-    rw (is_there t.before) (c.pads.ensures ∙ ap (λ (b : Bool). how.allow_pad && asked how.outline && b) t.touches_edge.ensures)
+    let how = c.args.how in
+    rw (is_there c.before.before) (c.pads.ensures ∙ ap (λ (b : Bool). how.allow_pad && asked how.outline && b) c.touches_edge.ensures)
 
 pub padding_spec : {M : Type 1} → statement M
 padding_spec = tie.close (tie.spec

@@ -6,7 +6,7 @@ use mir.Syntax.{w32}
 use mir.Val.{to_z, of_z}
 use mir.Facts.{to_z-of_z}
 use borrow.Author.Rules.{rules}
-use borrow.Author.Tests.{not_true, not_false}
+use borrow.Author.Tests.{not-true, not-false}
 use Rattle.rules.specs.Palette.{palette_of}
 use Rattle.rules.specs.Sheet.{sheet_of, over}
 use Rattle.rules.specs.Calls.{limits_at}
@@ -27,7 +27,7 @@ returns : tie.Need-returns-then-not-config
 returns c =
     let s = c.before.before.before.before in
     let a = s.args in
-    uncleaned a.cells-1.now a.size.h a.size.w a.max-passes (palette_of a.palette.now a.k) (limits_of a.config) a.config.remove_orphans s.requires.0 (not_true _ c.if-not-config.true)
+    uncleaned a.cells-1.now a.size.h a.size.w a.max-passes (palette_of a.palette.now a.k) (limits_of a.config) a.config.remove_orphans s.requires.0 (not-true _ c.if-not-config.true)
 
 returns-2 : tie.Need-returns
 unfolding limits_of
@@ -47,7 +47,7 @@ clean-sheet-requires c κs =
     let t = c.before.before in
     let s = start t in
     let a = s.args in
-    subst (λ (z : ℤ). Fit a.cells-1.now a.size.h a.size.w a.palette.now a.k z (length a.work-1.now)) (sym (back t)) (s.requires.1 (not_false _ t.before.if-not-config.false))
+    subst (λ (z : ℤ). Fit a.cells-1.now a.size.h a.size.w a.palette.now a.k z (length a.work-1.now)) (sym (back t)) (s.requires.1 (not-false _ t.before.if-not-config.false))
 
 same_length : tie.Need-shape_of-cells
 same_length c = search rules

@@ -6,9 +6,8 @@ use Rattle.replay.proofs.stream.read.Tie as tie
 
 returns : tie.Need-returns
 returns c =
-    let p = c.before.before in
-    let e = p.parsed-count.ensures in
-    (p.before.before.before.before.before.before.read_full-bytes.ensures.0, (e.0, (e.1, rw (e.0, e.1) (bytes_fit _ _ _))))
+    let e = c.parsed-count.ensures in
+    (c.read_full-bytes.ensures.0, (e.0, (e.1, rw (e.0, e.1) (bytes_fit _ _ _))))
 
 pub read_spec : {M : Type 1} → statement M
 read_spec =

@@ -22,7 +22,7 @@ add-scale : tie.Need-overflow_add-i invariant-loop decreases-loop
 add-scale c = omega arith
 
 scale-requires : tie.Need-scale-requires invariant-loop decreases-loop
-scale-requires c κs = omega (arith, c.before.before.loop-i.invariant.1.size)
+scale-requires c κs = omega (arith, c.loop-i.invariant.1.size)
 
 mul-scale-2 : tie.Need-overflow_mul-i-in-loop-i invariant-loop decreases-loop
 mul-scale-2 c = omega arith
@@ -32,8 +32,7 @@ add-scale-2 c = omega arith
 
 scale-requires-2 : tie.Need-scale-requires-in-loop-i invariant-loop decreases-loop
 scale-requires-2 c κs =
-    let t = c.before.before.before in
-    omega (arith, t.scale.auto.0, t.before.before.before.loop-i.invariant.1.size)
+    omega (arith, c.scale.auto.palette, c.loop-i.invariant.1.size)
 
 add-i : tie.Need-overflow_step-i invariant-loop decreases-loop
 add-i c = omega arith
@@ -43,18 +42,16 @@ loop-less c = omega arith
 
 loop-again : tie.Need-loop-i-preserved invariant-loop decreases-loop
 loop-again c =
-    let u = c.before.before in
-    let t = u.before.before.before.before in
-    (omega arith, saturates_step _ _ t.before.before.before.loop-i.i t.before.before.before.loop-i.invariant.1 (omega arith) t.scale.ensures u.scale-in-loop-i.ensures)
+    (omega arith, saturates_step _ _ c.loop-i.i c.loop-i.invariant.1 (omega arith) c.scale.ensures c.scale-in-loop-i.ensures)
 
 same_length : tie.Need-shape_of-palette invariant-loop decreases-loop
-same_length c = c.before.loop-i.invariant.1.size
+same_length c = c.loop-i.invariant.1.size
 
 returns : tie.Need-returns invariant-loop decreases-loop
 returns c =
-    let k = c.before.before.before.args.k in
-    let e : c.before.loop-i.i ≡ k = omega arith in
-    saturates_end _ _ k (rw e at c.before.loop-i.invariant.1)
+    let k = c.args.k in
+    let e : c.loop-i.i ≡ k = omega arith in
+    saturates_end _ _ k (rw e at c.loop-i.invariant.1)
 
 pub saturate_spec : {M : Type 1} → statement M
 saturate_spec =

@@ -1,6 +1,6 @@
 -- `Cursor::number` meets its contract. Assumes nothing.
 use mathlib.Core.Path.{sym, ◌∙◌}
-use borrow.Author.Tests.{not_true, not_false}
+use borrow.Author.Tests.{not-true, not-false}
 use native.Mathlib.Omega.{arith}
 use Rattle.silk_reader.specs.Answers.{got_number}
 use Rattle.silk_reader.proofs.Scanning.{digits_inside, digits_proper, number_none, number_no, number_yes}
@@ -32,16 +32,16 @@ proper-requires c κs = tt
 
 returns-2 : tie.Need-returns-then-not-proper
 unfolding got_number
-returns-2 c = number_no _ _ _ (digits_end_lem c.before).digits_end-end.ensures (sym c.before.proper.ensures ∙ not_true _ c.if-not-proper.true)
+returns-2 c = number_no _ _ _ (digits_end_lem c.before).digits_end-end.ensures (sym c.before.proper.ensures ∙ not-true _ c.if-not-proper.true)
 
 value-requires : tie.Need-value-requires
-value-requires c κs = digits_proper _ _ _ (digits_end_lem c.before).digits_end-end.ensures (sym c.before.proper.ensures ∙ not_false _ c.if-not-proper.false)
+value-requires c κs = digits_proper _ _ _ (digits_end_lem c.before).digits_end-end.ensures (sym c.before.proper.ensures ∙ not-false _ c.if-not-proper.false)
 
 returns-3 : tie.Need-returns
 unfolding got_number
 returns-3 c =
     let proper = c.before.before in
-    rw c.value.ensures (number_yes _ _ _ (digits_end_lem proper).digits_end-end.ensures (sym proper.proper.ensures ∙ not_false _ c.before.if-not-proper.false))
+    rw c.value.ensures (number_yes _ _ _ (digits_end_lem proper).digits_end-end.ensures (sym proper.proper.ensures ∙ not-false _ c.before.if-not-proper.false))
 
 pub number_spec : {M : Type 1} → statement M
 number_spec =

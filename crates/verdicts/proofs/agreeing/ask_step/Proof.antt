@@ -17,64 +17,53 @@ use Rattle.verdicts.proofs.Keeping.{sheet-few}
 use Rattle.verdicts.proofs.agreeing.ask_step.Statement.{statement}
 use Rattle.verdicts.proofs.agreeing.ask_step.Tie as tie
 
-abbrev start : tie.After-struct_told-2-1 → tie.Start
-start c = c.before.before.before.before
-
 -- what the step finds
-found : (c : tie.After-reached) → c.reached.result ≡ step_of (landing (start c.before).args.grid (start c.before).args.step)
-found c = step_finds (start c.before).requires.1 c.reached.ensures
-
-abbrev stepped : tie.In-Cell → tie.After-reached
-stepped c = c.before.before.before
-
-abbrev begun : tie.In-Cell → tie.Start
-begun c = start (stepped c).before
+found : (c : tie.After-reached) → c.reached.result ≡ step_of (landing c.args.grid c.args.step)
+found c = step_finds c.requires.1 c.reached.ensures
 
 abbrev n : tie.In-Cell → ℕ
-n c = area_of (begun c).args.grid
+n c = area_of c.args.grid
 
 -- the cell that it finds
 abbrev cell : tie.In-Cell → ℕ
-cell c = c.before.q-1.given.0.0
+cell c = c.in-Cell.q
 
-at : (c : tie.In-Cell) → landing (begun c).args.grid (begun c).args.step ≡ some (cell c)
-at c = step_cell (sym (found (stepped c)) ∙ c.before.q-1.given.1)
+at : (c : tie.In-Cell) → landing c.args.grid c.args.step ≡ some (cell c)
+at c = step_cell (sym (found c.before) ∙ c.in-Cell.is)
 
 pub record Inside (c : tie.In-Cell) : Type 0 where
   pub cell : cell c < n c
   pub few : n c ≤ 264196
-  pub room : 8 * n c ≤ length (begun c).args.work.now
+  pub room : 8 * n c ≤ length c.args.work.now
 
 inside : (c : tie.In-Cell) → Inside c
-inside c = let b = (begun c).requires.0 in record { cell = (step_sound _ _ _ _ _ _ _ (at c)).inside; few = sheet-few b; room = b.room }
+inside c = let b = c.requires.0 in record { cell = (step_sound _ _ _ _ _ _ _ (at c)).inside; few = sheet-few b; room = b.room }
 
 -- what is read is whether it is large, and its paint
-large_is : (c : tie.In-Cell) → get_or (begun c).args.work.now (5 * n c + cell c) 0 ≡ plane (n c) 5 (begun c).args.work.now (cell c)
-large_is c = plane_read (n c) 5 (cell c) (5 * n c + cell c) (begun c).args.work.now (omega arith)
+large_is : (c : tie.In-Cell) → get_or c.args.work.now (5 * n c + cell c) 0 ≡ plane (n c) 5 c.args.work.now (cell c)
+large_is c = plane_read (n c) 5 (cell c) (5 * n c + cell c) c.args.work.now (omega arith)
 
-paint_is : (c : tie.In-Cell) → get_or (begun c).args.work.now (cell c) 0 ≡ plane (n c) 0 (begun c).args.work.now (cell c)
-paint_is c = plane_read (n c) 0 (cell c) (cell c) (begun c).args.work.now (omega arith)
+paint_is : (c : tie.In-Cell) → get_or c.args.work.now (cell c) 0 ≡ plane (n c) 0 c.args.work.now (cell c)
+paint_is c = plane_read (n c) 0 (cell c) (cell c) c.args.work.now (omega arith)
 
 returns : tie.Need-returns-in_default
 unfolding asked
-returns c = rw (step_off (sym (found c.before.before) ∙ c.enum_told-1.given.1))
+returns c = rw (step_off (sym (found c.before) ∙ c.in_default.is))
 
 returns-2 : tie.Need-returns-then-work-n-eq0
 unfolding asked
-returns-2 c = let q = c.before.before in rw (at q, eq-eqb (plane (n q) 5 (begun q).args.work.now (cell q)) 0 (sym (large_is q) ∙ c.if-work-n-eq0.true))
+returns-2 c = rw (at c.before.before, eq-eqb (plane (n c.before.before) 5 c.args.work.now (cell c.before.before)) 0 (sym (large_is c.before.before) ∙ c.if-work-n-eq0.true))
 
 returns-3 : tie.Need-returns
 unfolding asked
 returns-3 c =
-    let e = c.before.before in
-    let q = e.before.before in
-    rw (at q, ne_eqb (plane (n q) 5 (begun q).args.work.now (cell q)) 0 (λ z. e.if-work-n-eq0.false (large_is q ∙ z))) (c.join.ensures ∙ ap (joined (begun q).args.so_far) (paint_is q))
+    rw (at c.before.before.before.before, ne_eqb (plane (n c.before.before.before.before) 5 c.args.work.now (cell c.before.before.before.before)) 0 (λ z. c.if-work-n-eq0.false (large_is c.before.before.before.before ∙ z))) (c.join.ensures ∙ ap (joined c.args.so_far) (paint_is c.before.before.before.before))
 
 mul-n : tie.Need-overflow_mul-n
-mul-n c = let s = c.before.before in omega (arith, sheet-few s.requires.0)
+mul-n c = omega (arith, sheet-few c.requires.0)
 
 reached-requires : tie.Need-reached-requires
-reached-requires c κs = let s = start c in step_asks s.requires.1 s.requires.0
+reached-requires c κs = step_asks c.requires.1 c.requires.0
 
 enum-known-q : tie.Need-enum_known-q
 enum-known-q c = search rules

@@ -37,17 +37,16 @@ loop-less c = omega arith
 
 loop-again : tie.Need-loop-c-preserved invariant-loop decreases-loop
 loop-again c =
-    let a = c.before.before.before in
-    let l = a.before.args.counts.now in
+    let l = c.args.counts.now in
     ⊎_elim
-    (λ w. (w.2 ∙ peak-more l a.loop-c.c a.loop-c.best a.loop-c.invariant.0 w.0.taken, omega arith))
-    (λ w. (w.1 ∙ peak-same l a.loop-c.c a.loop-c.best a.loop-c.invariant.0 w.0.left, omega arith))
+    (λ w. (w.best-is ∙ peak-more l c.loop-c.c c.loop-c.best c.loop-c.invariant.0 w.if-best-counts.true, omega arith))
+    (λ w. (w.best-is ∙ peak-same l c.loop-c.c c.loop-c.best c.loop-c.invariant.0 w.if-best-counts.false, omega arith))
     c.if-best-counts.branch-raw
 
 returns : tie.Need-returns invariant-loop decreases-loop
 returns c =
-    let e : c.before.loop-c.c ≡ c.before.before.args.k = omega arith in
-    c.before.loop-c.invariant.0 ∙ ap (peak c.before.before.args.counts.now) e
+    let e : c.loop-c.c ≡ c.args.k = omega arith in
+    c.loop-c.invariant.0 ∙ ap (peak c.args.counts.now) e
 
 pub most_spec : {M : Type 1} → statement M
 most_spec =

@@ -12,15 +12,15 @@ enum_told c = search rules
 
 returns : tie.Need-returns-in_default
 unfolding nearer
-returns c = rw c.enum_told-1.given.1
+returns c = rw c.in_default.is
 
 returns-2 : tie.Need-returns-then-d-e
 unfolding nearer
-returns-2 c = rw (c.before.before.t-1.given.1, c.if-d-e.true)
+returns-2 c = rw (c.in-Index.is, c.if-d-e.true)
 
 returns-3 : tie.Need-returns
 unfolding nearer
-returns-3 c = rw (c.before.before.t-1.given.1, c.if-d-e.false)
+returns-3 c = rw (c.in-Index.is, c.if-d-e.false)
 
 pub nearer_spec : {M : Type 1} → statement M
 nearer_spec = tie.close (tie.spec

@@ -45,25 +45,22 @@ loop-less c = omega arith
 loop-again : tie.Need-loop-c-preserved invariant-loop decreases-loop
 unfolding entry_distance
 loop-again c =
-    let l = c.before.before.before in
-    let s = l.before.before.before in
-    let i = l.loop-c.c in
-    let u = s.args.palette.now in
+    let i = c.loop-c.c in
+    let u = c.args.palette.now in
     ⊎_elim
     (λ w. (
-      w.4 ∙ w.3.ensures
-          ∙ ap (nearer l.loop-c.best i) (w.2.ensures ∙ ap₂ distance l.before.entry-from.ensures w.1.ensures)
-          ∙ nearest-more (entry_distance u s.args.own_val) s.args.counts.now s.args.m i l.loop-c.best l.loop-c.invariant.0 w.0.taken,
+      w.best-is ∙ w.nearer-best.ensures
+          ∙ ap (nearer c.loop-c.best i) (w.distance.ensures ∙ ap₂ distance c.entry-from.ensures w.entry.ensures)
+          ∙ nearest-more (entry_distance u c.args.own_val) c.args.counts.now c.args.m i c.loop-c.best c.loop-c.invariant.0 w.if-counts-c.true,
       omega arith,
     ))
-    (λ w. (w.1 ∙ nearest-same (entry_distance u s.args.own_val) s.args.counts.now s.args.m i l.loop-c.best l.loop-c.invariant.0 w.0.left, omega arith))
+    (λ w. (w.best-is ∙ nearest-same (entry_distance u c.args.own_val) c.args.counts.now c.args.m i c.loop-c.best c.loop-c.invariant.0 w.if-counts-c.false, omega arith))
     c.if-counts-c.branch-raw
 
 returns : tie.Need-returns invariant-loop decreases-loop
 returns c =
-    let s = c.before.before.before.before in
-    let e : c.before.loop-c.c ≡ s.args.k = omega arith in
-    c.before.loop-c.invariant.0 ∙ ap (nearest (entry_distance s.args.palette.now s.args.own_val) s.args.counts.now s.args.m) e
+    let e : c.loop-c.c ≡ c.args.k = omega arith in
+    c.loop-c.invariant.0 ∙ ap (nearest (entry_distance c.args.palette.now c.args.own_val) c.args.counts.now c.args.m) e
 
 pub nearest_spec : {M : Type 1} → statement M
 nearest_spec =

@@ -31,43 +31,37 @@ mark-is s = plane_read s.args.n 5 s.args.q (5 * s.args.n + s.args.q) s.args.work
 
 returns : tie.Need-returns-then-last-eq0
 returns c =
-    let s = c.before.before in
-    polled_silent s.args.n s.args.mark (marked s) s.args.q s.requires.1.0.0 s.args.work.now s.args.counts.now s.requires.1.1
-    (λ z. absurd (z (sym (mark-is s) ∙ c.if-last-eq0.true)))
+    polled_silent c.args.n c.args.mark (marked c.before.before) c.args.q c.requires.1.0.0 c.args.work.now c.args.counts.now c.requires.1.1
+    (λ z. absurd (z (sym (mark-is c.before.before) ∙ c.if-last-eq0.true)))
 
 returns-2 : tie.Need-returns-then-last-mark
 returns-2 c =
-    let s = c.before.before.before in
-    polled_silent s.args.n s.args.mark (marked s) s.args.q s.requires.1.0.0 s.args.work.now s.args.counts.now s.requires.1.1
-    (λ z. sym (mark-is s) ∙ c.if-last-mark.true)
+    polled_silent c.args.n c.args.mark (marked c.before.before.before) c.args.q c.requires.1.0.0 c.args.work.now c.args.counts.now c.requires.1.1
+    (λ z. sym (mark-is c.before.before.before) ∙ c.if-last-mark.true)
 
-abbrev start : tie.Else-last-mark → tie.Start
-start c = c.before.before.before
+large : (c : tie.Else-last-mark) → plane c.args.n 5 c.args.work.now c.args.q ≡ 0 → ⊥
+large c e = c.if-last-eq0.false (mark-is c.before.before.before ∙ e)
 
-large : (c : tie.Else-last-mark) → plane (start c).args.n 5 (start c).args.work.now (start c).args.q ≡ 0 → ⊥
-large c e = c.before.if-last-eq0.false (mark-is (start c) ∙ e)
-
-paint_is : (c : tie.Else-last-mark) → get_or (start c).args.work.now (start c).args.q 0 ≡ plane (start c).args.n 0 (start c).args.work.now (start c).args.q
-paint_is c = let s = start c in plane_read s.args.n 0 s.args.q s.args.q s.args.work.now (omega arith)
+paint_is : (c : tie.Else-last-mark) → get_or c.args.work.now c.args.q 0 ≡ plane c.args.n 0 c.args.work.now c.args.q
+paint_is c = plane_read c.args.n 0 c.args.q c.args.q c.args.work.now (omega arith)
 
 -- the cell's paint is that of an index below 256
 pub record Bounds (c : tie.Else-last-mark) : Type 0 where
-  pub some : 1 ≤ get_or (start c).args.work.now (start c).args.q 0
-  pub most : get_or (start c).args.work.now (start c).args.q 0 ≤ 256
-  pub few : (start c).args.n ≤ 264196
-  pub room : 8 * (start c).args.n ≤ length (start c).args.work.now
-  pub inside : (start c).args.q < (start c).args.n
+  pub some : 1 ≤ get_or c.args.work.now c.args.q 0
+  pub most : get_or c.args.work.now c.args.q 0 ≤ 256
+  pub few : c.args.n ≤ 264196
+  pub room : 8 * c.args.n ≤ length c.args.work.now
+  pub inside : c.args.q < c.args.n
 
 bounds : (c : tie.Else-last-mark) → Bounds c
 bounds c =
-    let s = start c in
-    let r = s.requires.0 in
+    let r = c.requires.0 in
     record {
-      some = rw (paint_is c) (r.large s.args.q s.requires.1.0.0 (large c));
-      most = rw (paint_is c) (r.paint s.args.q s.requires.1.0.0);
+      some = rw (paint_is c) (r.large c.args.q c.requires.1.0.0 (large c));
+      most = rw (paint_is c) (r.paint c.args.q c.requires.1.0.0);
       few = r.few;
       room = r.room;
-      inside = s.requires.1.0.0;
+      inside = c.requires.1.0.0;
     }
 
 mul-paint : tie.Need-offset_bounds-work-q
@@ -98,29 +92,25 @@ mul-counts : tie.Need-offset_bounds-counts-c
 mul-counts c = omega (arith, bounds c.before)
 
 element-copy-out-counts : tie.Need-bounds-counts-c
-element-copy-out-counts c = omega (arith, bounds c.before)
+element-copy-out-counts c = omega (arith, bounds c.before.before)
 
 add-counts : tie.Need-overflow_add-counts
 add-counts c =
-    let a = c.before.before in
-    let s = start a in
-    let l = tally_le s.requires.1.1 (get_or s.args.work.now s.args.q 0 - 1) (omega (arith, bounds a)) in
-    omega (arith, bounds a)
+    let l = tally_le c.requires.1.1 (get_or c.args.work.now c.args.q 0 - 1) (omega (arith, bounds c.before.before.before)) in
+    omega (arith, bounds c.before.before.before)
 
 element-write-counts : tie.Need-bounds-counts-c-2
-element-write-counts c = omega (arith, bounds c.before.before)
+element-write-counts c = omega (arith, bounds c.before.before.before)
 
 same_length : tie.Need-shape_of-work
 same_length c = search rules
 
 returns-3 : tie.Need-returns
 returns-3 c =
-    let a = c.before.before in
-    let s = start a in
-    polled_cast s.args.n s.args.mark (marked s) s.args.q s.requires.1.0.0 s.args.work.now s.args.counts.now s.requires.1.1
-    (get_or s.args.work.now s.args.q 0 - 1) (5 * s.args.n + s.args.q) (omega arith) (omega (arith, bounds a)) (large a)
-    (λ z. a.if-last-mark.false (mark-is s ∙ z))
-    (sym (paint_is a) ∙ omega (arith, bounds a)) (omega (arith, bounds a))
+    polled_cast c.args.n c.args.mark (marked c.before.before.before.before.before.before) c.args.q c.requires.1.0.0 c.args.work.now c.args.counts.now c.requires.1.1
+    (get_or c.args.work.now c.args.q 0 - 1) (5 * c.args.n + c.args.q) (omega arith) (omega (arith, bounds c.before.before.before)) (large c.before.before.before)
+    (λ z. c.if-last-mark.false (mark-is c.before.before.before.before.before.before ∙ z))
+    (sym (paint_is c.before.before.before) ∙ omega (arith, bounds c.before.before.before)) (omega (arith, bounds c.before.before.before))
 
 pub ask_spec : {M : Type 1} → statement M
 ask_spec =

@@ -15,15 +15,12 @@ use Rattle.verdicts.proofs.voting.vote.Tie as tie
 marked : (s : tie.Start) → s.args.mark ≡ 0 → ⊥
 marked s e = omega (arith, s.requires.0.2)
 
-abbrev start : tie.After-struct_told-2-1 → tie.Start
-start c = c.before.before.before
-
 reached-requires : tie.Need-reached-requires
-reached-requires c κs = let s = start c in step_asks s.requires.0.1 s.requires.0.0
+reached-requires c κs = step_asks c.requires.0.1 c.requires.0.0
 
 -- what the step finds
-found : (c : tie.After-reached) → c.reached.result ≡ step_of (landing (start c.before).args.grid (start c.before).args.step)
-found c = step_finds (start c.before).requires.0.1 c.reached.ensures
+found : (c : tie.After-reached) → c.reached.result ≡ step_of (landing c.args.grid c.args.step)
+found c = step_finds c.requires.0.1 c.reached.ensures
 
 enum-known-q : tie.Need-enum_known-q
 enum-known-q c = search rules
@@ -33,38 +30,25 @@ enum_told c = search rules
 
 returns : tie.Need-returns-in_default
 returns c =
-    let a = c.before.before in
-    let s = start a.before in
-    polled_off (area_of s.args.grid) s.args.mark (marked s) (step_off (sym (found a) ∙ c.enum_told-1.given.1)) s.requires.1
-
-abbrev begun : tie.In-Cell-2 → tie.Start
-begun c = start c.before.before.before
+    polled_off (area_of c.args.grid) c.args.mark (marked c.before.before.before.before.before) (step_off (sym (found c.before) ∙ c.in_default.is)) c.requires.1
 
 -- the cell that it finds
-at : (c : tie.In-Cell-2) → landing (begun c).args.grid (begun c).args.step ≡ some c.q-1.given.0.0
-at c = step_cell (sym (found c.before.before) ∙ c.q-1.given.1)
+at : (c : tie.In-Cell) → landing c.args.grid c.args.step ≡ some c.in-Cell.q
+at c = step_cell (sym (found c.before) ∙ c.in-Cell.is)
 
 mul-n : tie.Need-overflow_mul-n
-mul-n c = omega (arith, sheet-few (begun c.before.before).requires.0.0)
-
-abbrev asked : tie.After-ask-arg-2-1 → tie.In-Cell-2
-asked c = c.before.before.before.before
+mul-n c = omega (arith, sheet-few c.requires.0.0)
 
 ask-requires : tie.Need-ask-requires
 ask-requires c κs =
-    let a = asked c in
-    let s = begun a in
-    (sheet-votes s.requires.0.0, (((step_sound _ _ _ _ _ _ _ (at a)).inside, s.requires.0.2), s.requires.1))
+    (sheet-votes c.requires.0.0, (((step_sound _ _ _ _ _ _ _ (at c.before.before.before)).inside, c.requires.0.2), c.requires.1))
 
 same_length : tie.Need-shape_of-work
 same_length c = search rules
 
 returns-2 : tie.Need-returns
 returns-2 c =
-    let v = c.before.before in
-    let a = asked v.before in
-    let s = begun a in
-    polled_on (area_of s.args.grid) s.args.mark (marked s) a.q-1.given.0.0 (at a) v.ask.ensures
+    polled_on (area_of c.args.grid) c.args.mark (marked c.before.before.before.before.before.before.before.before.before.before.before) c.in-Cell.q (at c.before.before.before.before.before.before) c.ask.ensures
 
 pub vote_spec : {M : Type 1} → statement M
 vote_spec =
