@@ -33,7 +33,7 @@ within-requires c κs = tt
 
 returns : tie.Need-returns-then-not-within invariant-loop decreases-loop
 unfolding strays
-returns c = sym (yes_any _ _ _ c.loop-i-test.true (ap not (sym c.within.ensures) ∙ c.if-not-within.true))
+returns c = sym (yes_any _ _ _ c.loop-i-test.true (ap not (sym c.within.ensures ∙ c.if-not-within.true)))
 
 add-i : tie.Need-overflow_add-i invariant-loop decreases-loop
 add-i c = omega arith
@@ -42,7 +42,7 @@ loop-less : tie.Need-loop-i-smaller invariant-loop decreases-loop
 loop-less c = omega arith
 
 loop-again : tie.Need-loop-i-preserved invariant-loop decreases-loop
-loop-again c = clear_more c.loop-i.invariant c.loop-i-test.true (ap not (sym c.within.ensures) ∙ c.if-not-within.false)
+loop-again c = clear_more c.loop-i.invariant c.loop-i-test.true (ap not (sym c.within.ensures ∙ c.if-not-within.false))
 
 returns-2 : tie.Need-returns invariant-loop decreases-loop
 unfolding strays

@@ -8,7 +8,7 @@ use Rattle.hex_colour.proofs.six_digits.Statement.{statement}
 use Rattle.hex_colour.proofs.six_digits.Tie as tie
 
 digits : (c : tie.Else-not-all_digits) → all_digits c.args.text.now ≡ true
-digits c = sym c.all_digits.ensures ∙ not-false _ c.if-not-all_digits.false
+digits c = sym c.all_digits.ensures ∙ c.if-not-all_digits.false
 
 returns : tie.Need-returns-then-text-ne6
 unfolding six_digits
@@ -20,7 +20,7 @@ all-digits-requires c κs = tt
 returns-2 : tie.Need-returns-then-not-all_digits
 unfolding six_digits
 returns-2 c =
-    let n : all_digits c.args.text.now ≡ false = sym c.all_digits.ensures ∙ not-true _ c.if-not-all_digits.true in
+    let n : all_digits c.args.text.now ≡ false = sym c.all_digits.ensures ∙ c.if-not-all_digits.true in
     rw (eq-eqb _ 6 c.if-text-ne6.false, n)
 
 pair-requires : tie.Need-pair-requires

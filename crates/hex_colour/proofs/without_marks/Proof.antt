@@ -3,6 +3,7 @@ use Prim.Native.Nat.{◌-◌}
 use mathlib.Core.Logic.{⊎_elim}
 use native.Mathlib.Omega.{arith}
 use lib.ListN.{length}
+use borrow.Author.Tests.{eq-eqb, ne_eqb}
 use Rattle.hex_colour.specs.Hex.{mark}
 use Rattle.hex_colour.proofs.Skipping.{Skipped, skipped_none, skipped_more, skipped_to, skipped_all}
 use Rattle.hex_colour.proofs.without_marks.Statement.{statement}
@@ -28,7 +29,7 @@ loop-less c = omega arith
 
 loop-again : tie.Need-loop-i-preserved invariant-loop decreases-loop
 unfolding mark
-loop-again c = skipped_more c.loop-i.invariant c.loop-i-test.true c.if-text-i-eq35.true
+loop-again c = skipped_more c.loop-i.invariant c.loop-i-test.true (eq-eqb _ 35 c.if-text-i-eq35.true)
 
 sub-result : tie.Need-slice_bounds-result-count invariant-loop decreases-loop
 sub-result c = omega arith
@@ -43,7 +44,7 @@ returns : tie.Need-returns invariant-loop decreases-loop
 unfolding mark
 returns c =
     let s = c.loop-i.invariant in
-    ⊎_elim (λ w. skipped_to s w.loop-i-test.true w.if-text-i-eq35.false) (λ w. skipped_all s w.loop-i-test.false) c.loop-i-test.branch-raw
+    ⊎_elim (λ w. skipped_to s w.loop-i-test.true (ne_eqb _ 35 w.if-text-i-eq35.false)) (λ w. skipped_all s w.loop-i-test.false) c.loop-i-test.branch-raw
 
 pub without_marks_spec : {M : Type 1} → statement M
 without_marks_spec = tie.close (tie.spec

@@ -43,39 +43,39 @@ tells6 c old seen = let way = c.requires.1 in rw (on way.rows, on way.cols) at (
 -- ---- and what the calls so far tell together
 
 passed1 : (c : tie.Else-not-finds) (old : List ℤ) → Seen c.before.before.before old → (Finds c.before.before.before old (neg_ℤ c.args.sy) (neg_ℤ c.args.sx)) ≡ true
-passed1 c old seen = sym (tells1 c.before old seen) ∙ not-false _ c.if-not-finds.false
+passed1 c old seen = sym (tells1 c.before old seen) ∙ c.if-not-finds.false
 
 passed2 : (c : tie.Else-not-finds-2) (old : List ℤ) → Seen c.before.before.before.before.before old → (Finds c.before.before.before.before.before old (neg_ℤ c.args.sy) (neg_ℤ c.args.sx) && Finds c.before.before.before.before.before old (neg_ℤ c.args.sy) (pos 0)) ≡ true
-passed2 c old seen = both (passed1 c.before.before old seen) (sym (tells2 c.before old seen) ∙ not-false _ c.if-not-finds-2.false)
+passed2 c old seen = both (passed1 c.before.before old seen) (sym (tells2 c.before old seen) ∙ c.if-not-finds-2.false)
 
 passed3 : (c : tie.Else-not-finds-3) (old : List ℤ) → Seen c.before.before.before.before.before.before.before old → (Finds c.before.before.before.before.before.before.before old (neg_ℤ c.args.sy) (neg_ℤ c.args.sx) && Finds c.before.before.before.before.before.before.before old (neg_ℤ c.args.sy) (pos 0) && Finds c.before.before.before.before.before.before.before old (neg_ℤ c.args.sy) c.args.sx) ≡ true
-passed3 c old seen = both (passed2 c.before.before old seen) (sym (tells3 c.before old seen) ∙ not-false _ c.if-not-finds-3.false)
+passed3 c old seen = both (passed2 c.before.before old seen) (sym (tells3 c.before old seen) ∙ c.if-not-finds-3.false)
 
 passed4 : (c : tie.Else-not-finds-4) (old : List ℤ) → Seen c.before.before.before.before.before.before.before.before.before old → (Finds c.before.before.before.before.before.before.before.before.before old (neg_ℤ c.args.sy) (neg_ℤ c.args.sx) && Finds c.before.before.before.before.before.before.before.before.before old (neg_ℤ c.args.sy) (pos 0) && Finds c.before.before.before.before.before.before.before.before.before old (neg_ℤ c.args.sy) c.args.sx && Finds c.before.before.before.before.before.before.before.before.before old (pos 0) (neg_ℤ c.args.sx)) ≡ true
-passed4 c old seen = both (passed3 c.before.before old seen) (sym (tells4 c.before old seen) ∙ not-false _ c.if-not-finds-4.false)
+passed4 c old seen = both (passed3 c.before.before old seen) (sym (tells4 c.before old seen) ∙ c.if-not-finds-4.false)
 
 passed5 : (c : tie.Else-not-finds-5) (old : List ℤ) → Seen c.before.before.before.before.before.before.before.before.before.before.before old → (Finds c.before.before.before.before.before.before.before.before.before.before.before old (neg_ℤ c.args.sy) (neg_ℤ c.args.sx) && Finds c.before.before.before.before.before.before.before.before.before.before.before old (neg_ℤ c.args.sy) (pos 0) && Finds c.before.before.before.before.before.before.before.before.before.before.before old (neg_ℤ c.args.sy) c.args.sx && Finds c.before.before.before.before.before.before.before.before.before.before.before old (pos 0) (neg_ℤ c.args.sx) && Finds c.before.before.before.before.before.before.before.before.before.before.before old c.args.sy (neg_ℤ c.args.sx)) ≡ true
-passed5 c old seen = both (passed4 c.before.before old seen) (sym (tells5 c.before old seen) ∙ not-false _ c.if-not-finds-5.false)
+passed5 c old seen = both (passed4 c.before.before old seen) (sym (tells5 c.before old seen) ∙ c.if-not-finds-5.false)
 
 returns : tie.Need-returns-then-not-finds
 unfolding around
-returns c old seen = rw (sym (tells1 c.before old seen) ∙ not-true _ c.if-not-finds.true, around)
+returns c old seen = rw (sym (tells1 c.before old seen) ∙ c.if-not-finds.true, around)
 
 returns-2 : tie.Need-returns-then-not-finds-2
 unfolding around
-returns-2 c old seen = rw (passed1 c.before.before old seen, sym (tells2 c.before old seen) ∙ not-true _ c.if-not-finds-2.true, around)
+returns-2 c old seen = rw (passed1 c.before.before old seen, sym (tells2 c.before old seen) ∙ c.if-not-finds-2.true, around)
 
 returns-3 : tie.Need-returns-then-not-finds-3
 unfolding around
-returns-3 c old seen = rw (passed2 c.before.before old seen, sym (tells3 c.before old seen) ∙ not-true _ c.if-not-finds-3.true, around)
+returns-3 c old seen = rw (passed2 c.before.before old seen, sym (tells3 c.before old seen) ∙ c.if-not-finds-3.true, around)
 
 returns-4 : tie.Need-returns-then-not-finds-4
 unfolding around
-returns-4 c old seen = rw (passed3 c.before.before old seen, sym (tells4 c.before old seen) ∙ not-true _ c.if-not-finds-4.true, around)
+returns-4 c old seen = rw (passed3 c.before.before old seen, sym (tells4 c.before old seen) ∙ c.if-not-finds-4.true, around)
 
 returns-5 : tie.Need-returns-then-not-finds-5
 unfolding around
-returns-5 c old seen = rw (passed4 c.before.before old seen, sym (tells5 c.before old seen) ∙ not-true _ c.if-not-finds-5.true, around)
+returns-5 c old seen = rw (passed4 c.before.before old seen, sym (tells5 c.before old seen) ∙ c.if-not-finds-5.true, around)
 
 returns-6 : tie.Need-returns
 unfolding around

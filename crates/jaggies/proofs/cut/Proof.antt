@@ -64,7 +64,7 @@ rest c old seen =
 held : (c : tie.Else-not-around) (old : List ℤ) →
     Seen c.before.before.before.before.before.before.before.before old → (By c.before.before.before.before.before.before.before.before old arms (cell_of c.args.a) && By c.before.before.before.before.before.before.before.before old around (cell_of c.look-b.result)) ≡ true
 held c old seen =
-    both (sym (arms_tells c.before.before.before old seen) ∙ not-false _ c.if-not-arms.false) (sym (around_tells c.before old seen) ∙ not-false _ c.if-not-around.false)
+    both (sym (arms_tells c.before.before.before old seen) ∙ c.if-not-arms.false) (sym (around_tells c.before old seen) ∙ c.if-not-around.false)
 
 -- ---- the needs
 
@@ -81,23 +81,23 @@ arms-requires : tie.Need-arms-requires
 arms-requires c κs = (c.requires.0, same_way c.before.before.before.before, c.requires.2)
 
 returns-3 : tie.Need-returns-then-not-arms
-returns-3 c = (λ old seen. rest c old seen false (rw (sym (arms_tells c.before old seen) ∙ not-true _ c.if-not-arms.true)), omega arith)
+returns-3 c = (λ old seen. rest c old seen false (rw (sym (arms_tells c.before old seen) ∙ c.if-not-arms.true)), omega arith)
 
 around-requires : tie.Need-around-requires
 around-requires c κs =
     (c.requires.0, same_way c.before.before.before.before.before.before, omega (arith, c.if-b-eq0))
 
 returns-4 : tie.Need-returns-then-not-around
-returns-4 c = (λ old seen. rest c.before.before.before.before old seen false (rw (sym (arms_tells c.before.before.before old seen) ∙ not-false _ c.if-not-arms.false, sym (around_tells c.before old seen) ∙ not-true _ c.if-not-around.true)), omega arith)
+returns-4 c = (λ old seen. rest c.before.before.before.before old seen false (rw (sym (arms_tells c.before.before.before old seen) ∙ c.if-not-arms.false, sym (around_tells c.before old seen) ∙ c.if-not-around.true)), omega arith)
 
 goes-on-requires : tie.Need-goes_on-requires
 goes-on-requires c κs = (c.requires.0, same_way c.before.before.before.before.before.before.before.before, c.requires.2)
 
 returns-5 : tie.Need-returns-then-not-goes_on
-returns-5 c = (λ old seen. rest c.before.before.before.before.before.before old seen false (rw (held c.before.before old seen) (sym (goes_on_tells c.before old seen) ∙ not-true _ c.if-not-goes_on.true)), omega arith)
+returns-5 c = (λ old seen. rest c.before.before.before.before.before.before old seen false (rw (held c.before.before old seen) (sym (goes_on_tells c.before old seen) ∙ c.if-not-goes_on.true)), omega arith)
 
 returns-6 : tie.Need-returns
-returns-6 c = (λ old seen. rest c.before.before.before.before.before.before old seen true (rw (held c.before.before old seen) (sym (goes_on_tells c.before old seen) ∙ not-false _ c.if-not-goes_on.false)), omega arith)
+returns-6 c = (λ old seen. rest c.before.before.before.before.before.before old seen true (rw (held c.before.before old seen) (sym (goes_on_tells c.before old seen) ∙ c.if-not-goes_on.false)), omega arith)
 
 pub cut_spec : {M : Type 1} → statement M
 cut_spec =

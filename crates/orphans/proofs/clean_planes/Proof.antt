@@ -88,7 +88,7 @@ unfolding rule_of
 returns-2 c =
     let u = labelling_of c.before.before.before.before.before in
     cleaned_still (ruled c.before.before.before.before.before.before.before.before.before.before.before.before.before.before.before.before) (n c.before.before.before.before.before.before.before.before.before.before.before.before.before.before.before.before) c.args.by.k c.args.max-passes c.args.work.now c.label_planes-t.new.work (labelled_state u (ruled c.before.before.before.before.before.before.before.before.before.before.before.before.before.before.before.before) refl) u.len (asked c.before.before.before.before.before)
-    (passed_still u c.args.palette.now (sym c.any_small.ensures ∙ not-true c.any_small.result c.if-not-any_small.true))
+    (passed_still u c.args.palette.now (sym c.any_small.ensures ∙ c.if-not-any_small.true))
 
 -- ---- else the planes are made ready
 

@@ -23,7 +23,7 @@ same_length c = search rules
 
 returns : tie.Need-returns-then-not-has_ring
 returns c =
-    drew_none _ _ _ _ _ _ c.requires.0.room (sym c.has_ring.ensures ∙ not-true c.has_ring.result c.if-not-has_ring.true)
+    drew_none _ _ _ _ _ _ c.requires.0.room (sym c.has_ring.ensures ∙ c.if-not-has_ring.true)
 
 outline-color-lab-requires : tie.Need-outline_color_lab-c-requires
 outline-color-lab-requires c κs = search rules
@@ -57,7 +57,7 @@ returns-2 : tie.Need-returns
 unfolding painted
 returns-2 c =
     drew_ring _ _ _ _ _ _ c.requires.0.room
-    (sym c.has_ring.ensures ∙ not-false c.has_ring.result c.if-not-has_ring.false) _ _ _ _
+    (sym c.has_ring.ensures ∙ c.if-not-has_ring.false) _ _ _ _
     _ c.outline_color_lab-c.ensures c.choose-chosen.ensures
     (c.ink.ensures ∙ ap (λ (k : List ℕ). filled (c.args.size.h * c.args.size.w) (painted c.args.cells.now k c.choose-chosen.result.index) c.args.cells.now) c.mark_ring.ensures
     ∙ inked-is _ _ _ _ _ c.requires.0.room)

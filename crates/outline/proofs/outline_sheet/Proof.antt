@@ -28,13 +28,13 @@ returns : tie.Need-returns-then-not-pads
 returns c =
     let s = c.args in
     drew_plain _ s.how (palette_of s.palette.now s.k) s.cells.now s.size.h s.size.w (ap (λ (b : Bool). b && not s.how.allow_pad) c.touches_edge-touched.ensures)
-    (sym (padding c.before.before.before.before.before.before.before.before.before.before) ∙ not-true c.pads.result c.if-not-pads.true) c.draw.ensures
+    (sym (padding c.before.before.before.before.before.before.before.before.before.before) ∙ c.if-not-pads.true) c.draw.ensures
 
 returns-2 : tie.Need-returns
 returns-2 c =
     let s = c.args in
     drew_padded _ s.how (palette_of s.palette.now s.k) s.cells.now s.size.h s.size.w (ap (λ (b : Bool). b && not s.how.allow_pad) c.touches_edge-touched.ensures)
-    (sym (padding c.before.before.before.before.before.before.before.before.before.before.before.before.before) ∙ not-false c.pads.result c.if-not-pads.false) _ c.pad.ensures c.draw-2.ensures
+    (sym (padding c.before.before.before.before.before.before.before.before.before.before.before.before.before) ∙ c.if-not-pads.false) _ c.pad.ensures c.draw-2.ensures
 
 touches-edge-requires : tie.Need-touches_edge-touched-requires
 touches-edge-requires c κs = seated _ c.args.cells.now c.requires.0
@@ -57,7 +57,7 @@ same-length-3 : tie.Need-shape_of-work-then-not-pads
 same-length-3 c = search rules
 
 roomy : (c : tie.Else-not-pads) → let s = c.args in ((s.size.h + 2) * (s.size.w + 2) ≤ length s.cells.now) × ((s.size.h + 2) * (s.size.w + 2) ≤ length s.work.now)
-roomy c = room_padded _ c.requires.0 (sym (padding c.before) ∙ not-false c.pads.result c.if-not-pads.false)
+roomy c = room_padded _ c.requires.0 (sym (padding c.before) ∙ c.if-not-pads.false)
 
 pad-requires : tie.Need-pad-requires
 pad-requires c κs = (c.requires.0.high, c.requires.0.wide, (roomy c.before).0)

@@ -9,12 +9,9 @@ use borrow.Author.Rules.{rules}
 use Rattle.run_refusals.proofs.bad_index_met.Statement.{statement}
 use Rattle.run_refusals.proofs.bad_index_met.Tie as tie
 
-abbrev start : tie.After-limits → tie.Start
-start c = c.before.before.before.before
-
-limited : (c : tie.After-limits) → c.limits.result ≡ le_z (pos 2) (start c).args.config.orphan_min_region
+limited : (c : tie.After-limits) → c.limits.result ≡ le_z (pos 2) c.args.config.orphan_min_region
 limited c =
-    let back = to_z-of_z {w = w32} {z = (start c).args.config.orphan_min_region} (record { sfits = c.before.struct_told-1.given.1.1.0.1 }) in
+    let back = to_z-of_z {w = w32} {z = c.args.config.orphan_min_region} (record { sfits = c.struct_told-1.given.1.1.0.1 }) in
     c.limits.ensures ∙ ap (le_z (pos 2)) back
 
 returns : tie.Need-returns-then-not-config
@@ -34,8 +31,7 @@ bad-index-requires c κs = search rules
 
 returns-3 : tie.Need-returns
 returns-3 c =
-    let e = c.before in
-    strays-any _ _ _ _ _ _ _ _ e.before.before.before.if-not-config.false (limited e.before) e.if-not-limits.false c.bad_index.ensures
+    strays-any _ _ _ _ _ _ _ _ c.if-not-config.false (limited c.before.before) c.if-not-limits.false c.bad_index.ensures
 
 pub bad_index_met_spec : {M : Type 1} → statement M
 bad_index_met_spec =

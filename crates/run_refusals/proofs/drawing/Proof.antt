@@ -12,9 +12,8 @@ pad-allowed-requires c κs = search rules
 
 returns : tie.Need-returns
 returns c =
-    let s = c.before in
-    ap (λ (b : Bool). record { outline = s.args.config.outline; allow_pad = b; fixed_palette = s.args.fixed-palette })
-    (c.pad_allowed-allow_pad.ensures ∙ ap (pad_allowed s.args.config) (to_z-of_z s.ranges.outline-margin))
+    ap (λ (b : Bool). record { outline = c.args.config.outline; allow_pad = b; fixed_palette = c.args.fixed-palette })
+    (c.pad_allowed-allow_pad.ensures ∙ ap (pad_allowed c.args.config) (to_z-of_z c.ranges.outline-margin))
 
 pub drawing_spec : {M : Type 1} → statement M
 drawing_spec = tie.close (tie.spec

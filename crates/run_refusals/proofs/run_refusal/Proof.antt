@@ -28,16 +28,13 @@ use Rattle.run_refusals.proofs.run_refusal.Tie as tie
 
 -- ---- the call
 
-abbrev start : tie.After-drawing-how → tie.Start
-start c = c.before.before.before.before
-
 abbrev call : tie.After-drawing-how → RunCall
 call c =
-    let s = (start c).args in
+    let s = c.args in
     record {
       lent = lent_sheet s.cells.now s.h s.w s.work;
       palette = palette_of s.palette.now s.k;
-      config = s.o.config-1;
+      config = s.o.config;
       saturated = s.o.saturated;
       fixed = s.o.fixed_palette;
       margin = s.o.outline_margin;
@@ -47,9 +44,9 @@ call c =
 drawn : (c : tie.After-drawing-how) → c.drawing-how.result ≡ drawing_of (call c)
 unfolding drawing_of
 drawn c =
-    let o = (start c).args.o in
-    let back = to_z-of_z {w = w32} {z = o.outline_margin} (record { sfits = c.before.struct_told-1.given.1.1.1.0.1 }) in
-    c.drawing-how.ensures ∙ ap (λ (z : ℤ). record { outline = o.config-1.outline; allow_pad = pad_allowed o.config-1 z; fixed_palette = o.fixed_palette }) back
+    let o = c.args.o in
+    let back = to_z-of_z {w = w32} {z = o.outline_margin} (record { sfits = c.struct_told-1.given.1.1.1.0.1 }) in
+    c.drawing-how.ensures ∙ ap (λ (z : ℤ). record { outline = o.config.outline; allow_pad = pad_allowed o.config z; fixed_palette = o.fixed_palette }) back
 
 -- ---- rows 1 to 3
 
@@ -58,27 +55,21 @@ padded c =
     let l = (call c.before).lent in
     c.padding-padded.ensures ∙ ap (λ (how : Drawing). present l.height l.width (length l.cells) && pads how (sheet_in l)) (drawn c.before)
 
-abbrev begun : tie.After-sheet_refusal → tie.After-drawing-how
-begun c = c.before.before
-
-sheet-judged : (c : tie.After-sheet_refusal) → let k = call (begun c) in c.sheet_refusal.result ≡ filling (refusal (lent_rows k.lent (padding k)))
+sheet-judged : (c : tie.After-sheet_refusal) → let k = call c.before.before in c.sheet_refusal.result ≡ filling (refusal (lent_rows k.lent (padding k)))
 sheet-judged c =
-    let k = call (begun c) in
+    let k = call c.before.before in
     c.sheet_refusal.ensures ∙ ap filling (padded_rows (drawing_of k) k.lent.cells k.lent.height k.lent.width k.lent.work (padded c.before))
 
-abbrev seen : tie.In_default → tie.After-sheet_refusal
-seen c = c.before.before
-
 abbrev called : tie.In_default → RunCall
-called c = call (begun (seen c))
+called c = call c.before.before.before
 
 one : (c : tie.In_default) → refusal (lent_rows (called c).lent (padding (called c))) ≡ none
-one c = filling_none (sheet-judged (seen c)) c.enum_told-1.given.1
+one c = filling_none (sheet-judged c.before) c.in_default.is
 
-padding-is : (c : tie.In_default) → (seen c).before.padding-padded.result ≡ padding (called c)
+padding-is : (c : tie.In_default) → c.padding-padded.result ≡ padding (called c)
 padding-is c =
     let l = (called c).lent in
-    padded-is (drawing_of (called c)) l.cells l.height l.width l.work (padded (seen c).before) (one c)
+    padded-is (drawing_of (called c)) l.cells l.height l.width l.work (padded c) (one c)
 
 room : (c : tie.In_default) → let l = (called c).lent in Room l.height l.width (needed l.height l.width (padding (called c))) (length l.cells) l.work
 room c = (sheet_room _ (one c)).0
@@ -86,59 +77,48 @@ room c = (sheet_room _ (one c)).0
 -- ---- rows 4 to 6
 
 abbrev Settings : RunCall → List Row
-Settings k = palette_rows k.palette (bad_config k.config-1 (k.saturated || k.fixed) k.palette)
+Settings k = palette_rows k.palette (bad_config k.config (k.saturated || k.fixed) k.palette)
 
-abbrev roomy : tie.After-settings_refusal → tie.In_default
-roomy c = c.before.before
+settings_judged : (c : tie.After-settings_refusal) → c.settings_refusal.result ≡ filling (refusal (Settings (called c.before.before)))
+settings_judged c = rw c.kept-kept.ensures at c.settings_refusal.ensures
 
-settings_judged : (c : tie.After-settings_refusal) → c.settings_refusal.result ≡ filling (refusal (Settings (called (roomy c))))
-settings_judged c = rw c.before.kept-kept.ensures at c.settings_refusal.ensures
-
-abbrev entered : tie.In_default-settings_refusal → tie.In_default
-entered c = roomy c.before.before
-
-two : (c : tie.In_default-settings_refusal) → refusal (Settings (called (entered c))) ≡ none
-two c = filling_none (settings_judged c.before.before) c.enum_told-in_default-settings_refusal-1.given.1
+two : (c : tie.In_default-settings_refusal) → refusal (Settings (called c.before.before.before)) ≡ none
+two c = filling_none (settings_judged c.before) c.in_default-settings_refusal.is
 
 -- ---- rows 7 and 8
 
 abbrev seventh : RunCall → Row
-seventh k = bad_index k.config-1.remove_orphans k.config-1.orphan_min_region k.palette (sheet_in k.lent)
+seventh k = bad_index k.config.remove_orphans k.config.orphan_min_region k.palette (sheet_in k.lent)
 
 abbrev eighth : RunCall → Row
 eighth k = no_entry (drawing_of k) k.palette (canvas (padding k) (sheet_in k.lent))
 
-past : (c : tie.In_default-settings_refusal) → let k = called (entered c) in run_refusal k ≡ refusal (seventh k ∷ eighth k ∷ [])
+past : (c : tie.In_default-settings_refusal) → let k = called c.before.before.before in run_refusal k ≡ refusal (seventh k ∷ eighth k ∷ [])
 unfolding run_refusal
-past c = rows_pass _ _ (one (entered c)) ∙ rows_pass _ _ (two c)
+past c = rows_pass _ _ (one c.before.before.before) ∙ rows_pass _ _ (two c)
 
-index : (c : tie.After-bad_index_met) → (seventh (called (entered c.before))).applies ≡ c.bad_index_met.result
+index : (c : tie.After-bad_index_met) → (seventh (called c.before.before.before.before)).applies ≡ c.bad_index_met.result
 unfolding bad_index
 index c = sym c.bad_index_met.ensures
 
-abbrev named : tie.Else-bad_index_met → tie.In_default-settings_refusal
-named c = c.before.before
+past_7 : (c : tie.Else-bad_index_met) → let k = called c.before.before.before.before.before in run_refusal k ≡ refusal (eighth k ∷ [])
+past_7 c = past c.before.before ∙ row-pass _ _ (index c.before ∙ c.if-bad_index_met.false)
 
-past_7 : (c : tie.Else-bad_index_met) → let k = called (entered (named c)) in run_refusal k ≡ refusal (eighth k ∷ [])
-past_7 c = past (named c) ∙ row-pass _ _ (index c.before ∙ c.if-bad_index_met.false)
-
-entry : (c : tie.After-no_entry) → (eighth (called (entered (named c.before)))).applies ≡ c.no_entry.result
+entry : (c : tie.After-no_entry) → (eighth (called c.before.before.before.before.before.before)).applies ≡ c.no_entry.result
 unfolding no_entry
 entry c =
-    let e = entered (named c.before) in
-    let k = called e in
+    let k = called c.before.before.before.before.before.before in
     let on : Drawing → Bool → Bool = (λ how b. (no_entry how k.palette (canvas b (sheet_in k.lent))).applies) in
-    sym (c.no_entry.ensures ∙ ap (λ (how : Drawing). on how (seen e).before.padding-padded.result) (drawn (begun (seen e))) ∙ ap (on (drawing_of k)) (padding-is e))
+    sym (c.no_entry.ensures ∙ ap (λ (how : Drawing). on how c.padding-padded.result) (drawn c.before.before.before.before.before.before.before.before.before) ∙ ap (on (drawing_of k)) (padding-is c.before.before.before.before.before.before))
 
 returns : tie.Need-returns-in-Refused
 unfolding run_refusal
-returns c = some_filling (rows_hit _ _ (filling_some (sheet-judged c.before.before.before) c.before.n-1.given.1))
+returns c = some_filling (rows_hit _ _ (filling_some (sheet-judged c.before) c.in-Refused.is))
 
 returns-2 : tie.Need-returns-in-Refused-settings_refusal
 unfolding run_refusal
 returns-2 c =
-    let s = c.before.before.before in
-    some_filling (rows_pass _ _ (one (roomy s)) ∙ rows_hit _ _ (filling_some (settings_judged s) c.before.n-in-Refused-settings_refusal-1.given.1))
+    some_filling (rows_pass _ _ (one c.before.before.before) ∙ rows_hit _ _ (filling_some (settings_judged c.before) c.in-Refused-settings_refusal.is))
 
 returns-3 : tie.Need-returns-then-bad_index_met
 unfolding bad_index
@@ -179,13 +159,12 @@ enum-told-2 : tie.Need-enum_told-in_default-settings_refusal
 enum-told-2 c = search rules
 
 bad-index-met-requires : tie.Need-bad_index_met-requires
-bad-index-met-requires c κs = let e = entered c in (seated _ (called e).lent.cells (room e), (palette_room _ (two c)).0.few)
+bad-index-met-requires c κs = (seated _ (called c.before.before.before).lent.cells (room c.before.before.before), (palette_room _ (two c)).0.few)
 
 no-entry-requires : tie.Need-no_entry-requires
 no-entry-requires c κs =
-    let e = entered (named c) in
-    let k = called e in
-    (seated _ k.lent.cells (room e), λ y. pad_touches (drawing_of k) (sheet_in k.lent) (sym (padding-is e) ∙ y))
+    let k = called c.before.before.before.before.before in
+    (seated _ k.lent.cells (room c.before.before.before.before.before), λ y. pad_touches (drawing_of k) (sheet_in k.lent) (sym (padding-is c.before.before.before.before.before) ∙ y))
 
 pub run_refusal_spec : {M : Type 1} → statement M
 run_refusal_spec =

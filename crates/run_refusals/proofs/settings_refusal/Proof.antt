@@ -16,57 +16,45 @@ use borrow.Author.Rules.{rules}
 use Rattle.run_refusals.proofs.settings_refusal.Statement.{statement}
 use Rattle.run_refusals.proofs.settings_refusal.Tie as tie
 
-abbrev start : tie.After-palette_refusal → tie.Start
-start c = c.before.before.before
-
 abbrev palette : tie.After-palette_refusal → Palette
-palette c = let s = (start c).args in palette_of s.palette.now s.k
+palette c = let s = c.args in palette_of s.palette.now s.k
 
 -- rows 4 to 6 by the settings' ranges
-judged : (c : tie.After-palette_refusal) → c.palette_refusal.result ≡ filling (refusal (palette_rows (palette c) (bad_ranges (start c).args.config)))
-judged c = c.palette_refusal.ensures ∙ ap (λ (b : Bool). filling (refusal (palette_rows (palette c) b))) c.before.bad_ranges.ensures
+judged : (c : tie.After-palette_refusal) → c.palette_refusal.result ≡ filling (refusal (palette_rows (palette c) (bad_ranges c.args.config)))
+judged c = c.palette_refusal.ensures ∙ ap (λ (b : Bool). filling (refusal (palette_rows (palette c) b))) c.bad_ranges.ensures
 
-abbrev entered : tie.In_default → tie.After-palette_refusal
-entered c = c.before.before
+passed_over : (c : tie.In_default) → refusal (palette_rows (palette c.before) (bad_ranges c.args.config)) ≡ none
+passed_over c = filling_none (judged c.before) c.in_default.is
 
-passed_over : (c : tie.In_default) → refusal (palette_rows (palette (entered c)) (bad_ranges (start (entered c)).args.config)) ≡ none
-passed_over c = filling_none (judged (entered c)) c.enum_told-1.given.1
-
-usable : (c : tie.In_default) → Usable (palette (entered c)) (bad_ranges (start (entered c)).args.config)
+usable : (c : tie.In_default) → Usable (palette c.before) (bad_ranges c.args.config)
 usable c = (palette_room _ (passed_over c)).0
 
 returns : tie.Need-returns-in-Refused
 returns c =
-    let r = c.before.before.before in
-    let s = (start r).args in
-    some_filling (in_two s.config s.kept (palette r) ∙ rows_hit _ _ (filling_some (judged r) c.before.n-1.given.1))
+    let s = c.args in
+    some_filling (in_two s.config s.kept (palette c.before) ∙ rows_hit _ _ (filling_some (judged c.before) c.in-Refused.is))
 
 returns-2 : tie.Need-returns-then-kept
 returns-2 c =
-    let e = c.before in
-    let r = entered e in
-    let s = (start r).args in
-    none_filling (in_two s.config s.kept (palette r) ∙ rows_pass _ _ (passed_over e)
-    ∙ row_last _ (ap out_of_range (kept_tones s.config s.kept (palette r) c.if-kept.true) ∙ (usable e).ranged))
+    let s = c.args in
+    none_filling (in_two s.config s.kept (palette c.before.before) ∙ rows_pass _ _ (passed_over c.before)
+    ∙ row_last _ (ap out_of_range (kept_tones s.config s.kept (palette c.before.before) c.if-kept.true) ∙ (usable c.before).ranged))
 
 -- the doubles that saturation leaves
-scaled : (c : tie.After-scaled_too_far) → let s = (start (entered c.before.before)).args in out_of_range (toned s.kept s.config (palette (entered c.before.before))) ≡ c.scaled_too_far.result
+scaled : (c : tie.After-scaled_too_far) → let s = c.args in out_of_range (toned s.kept s.config (palette c.before.before.before)) ≡ c.scaled_too_far.result
 scaled c =
-    let r = entered c.before.before in
-    let s = (start r).args in
-    ap out_of_range (new_tones s.config s.kept (palette r) c.before.if-kept.false) ∙ sym c.scaled_too_far.ensures
+    let s = c.args in
+    ap out_of_range (new_tones s.config s.kept (palette c.before.before.before) c.if-kept.false) ∙ sym c.scaled_too_far.ensures
 
 returns-3 : tie.Need-returns-then-scaled_too_far
 returns-3 c =
-    let e = c.before.before.before in
-    let s = (start (entered e)).args in
-    some_filling (in_two s.config s.kept (palette (entered e)) ∙ rows_pass _ _ (passed_over e) ∙ row_hit _ _ (scaled c.before ∙ c.if-scaled_too_far.true))
+    let s = c.args in
+    some_filling (in_two s.config s.kept (palette c.before.before.before.before) ∙ rows_pass _ _ (passed_over c.before.before.before) ∙ row_hit _ _ (scaled c.before ∙ c.if-scaled_too_far.true))
 
 returns-4 : tie.Need-returns
 returns-4 c =
-    let e = c.before.before.before in
-    let s = (start (entered e)).args in
-    none_filling (in_two s.config s.kept (palette (entered e)) ∙ rows_pass _ _ (passed_over e) ∙ row_last _ (scaled c.before ∙ c.if-scaled_too_far.false))
+    let s = c.args in
+    none_filling (in_two s.config s.kept (palette c.before.before.before.before) ∙ rows_pass _ _ (passed_over c.before.before.before) ∙ row_last _ (scaled c.before ∙ c.if-scaled_too_far.false))
 
 bad-ranges-requires : tie.Need-bad_ranges-requires
 bad-ranges-requires c κs = search rules

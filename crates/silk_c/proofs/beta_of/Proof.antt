@@ -8,11 +8,11 @@ use Rattle.silk_c.proofs.beta_of.Tie as tie
 
 returns : tie.Need-returns-then-kind-gt2
 unfolding beta_of div round of_bits
-returns c = rw (lt-ltb 2 c.before.args.kind (omega arith))
+returns c = rw (lt-ltb 2 c.args.kind (omega arith))
 
 returns-2 : tie.Need-returns-else-kind-gt2
 unfolding beta_of
-returns-2 c = rw (le-ltb 2 c.before.args.kind (omega arith))
+returns-2 c = rw (le-ltb 2 c.args.kind (omega arith))
 
 pub beta_of_spec : {M : Type 1} → statement M
 beta_of_spec = tie.close (tie.spec

@@ -17,8 +17,7 @@ is-set-requires-3 c κs = search rules
 returns : tie.Need-returns
 unfolding config_of
 returns c =
-    let i = c.before.before in
-    rw (i.is_set.ensures, c.before.is_set-2.ensures, c.is_set-3.ensures, to_z-of_z i.before.ranges.orphan-min-region)
+    rw (c.is_set.ensures, c.is_set-2.ensures, c.is_set-3.ensures, to_z-of_z c.ranges.orphan-min-region)
 
 pub config_of_spec : {M : Type 1} → statement M
 config_of_spec = tie.close (tie.spec

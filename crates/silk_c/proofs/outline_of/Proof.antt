@@ -10,11 +10,11 @@ returns c = simp (eq-eqb _ _ c.if-kind-eq1.true)
 
 returns-2 : tie.Need-returns-then-kind-eq2
 unfolding outline_of
-returns-2 c = simp (ne_eqb _ _ c.before.if-kind-eq1.false, eq-eqb _ _ c.if-kind-eq2.true)
+returns-2 c = simp (ne_eqb _ _ c.if-kind-eq1.false, eq-eqb _ _ c.if-kind-eq2.true)
 
 returns-3 : tie.Need-returns
 unfolding outline_of
-returns-3 c = simp (ne_eqb _ _ c.before.if-kind-eq1.false, ne_eqb _ _ c.if-kind-eq2.false)
+returns-3 c = simp (ne_eqb _ _ c.if-kind-eq1.false, ne_eqb _ _ c.if-kind-eq2.false)
 
 pub outline_of_spec : {M : Type 1} → statement M
 outline_of_spec = tie.close (tie.spec

@@ -17,7 +17,7 @@ cast-result c = search rules
 
 returns : tie.Need-returns-in-Refused
 unfolding after_facts_rows
-returns c = turned_two _ c.before.before.before.facts_rows.ensures c.before.n-1.given.1 _ _ _ _ _ _
+returns c = turned_two _ c.facts_rows.ensures c.in-Refused.is _ _ _ _ _ _
 
 enum_told : tie.Need-enum_told-1
 enum_told c = search rules
@@ -36,9 +36,7 @@ add-outline-requires c κs = search rules
 
 tell-outline-requires : tie.Need-tell_outline-requires
 tell-outline-requires c κs =
-    let l = c.before.before.before.before.before.before in
-    let u = l.before.before.before.before.before.before.before in
-    (drawn-small _ l.add_outline-answer.ensures.0, roomy _ _ _ _ u.before.before.facts_rows.ensures u.enum_told-1.given.1)
+    (drawn-small _ c.add_outline-answer.ensures.0, roomy _ _ _ _ c.facts_rows.ensures c.in_default.is)
 
 same_length : tie.Need-shape_of-cells
 same_length c = search rules
@@ -55,12 +53,8 @@ same-length-4 c = search rules
 returns-2 : tie.Need-returns
 unfolding after_facts_rows
 returns-2 c =
-    let t = c.before.before in
-    let l = t.before.before.before.before.before.before.before in
-    let i = l.before.before.before.before in
-    let u = i.before.before.before in
-    let r = rw (i.before.before.outline_of-outline.ensures, i.before.is_set-pad.ensures, i.is_set-fixed.ensures) at l.add_outline-answer.ensures in
-    heard_two _ u.before.before.facts_rows.ensures u.enum_told-1.given.1 outlined _ t.tell_outline.ensures _ _ r
+    let r = rw (c.outline_of-outline.ensures, c.is_set-pad.ensures, c.is_set-fixed.ensures) at c.add_outline-answer.ensures in
+    heard_two _ c.facts_rows.ensures c.in_default.is outlined _ c.tell_outline.ensures _ _ r
 
 pub silk_add_outline_spec : {M : Type 1} → statement M
 silk_add_outline_spec =

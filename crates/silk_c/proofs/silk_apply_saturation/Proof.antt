@@ -15,7 +15,7 @@ same_length : tie.Need-shape_of-palette
 same_length c = search rules
 
 returns : tie.Need-returns
-returns c = (numbered done c.number.ensures c.before.before.before.apply_saturation.ensures.0, c.before.before.before.apply_saturation.ensures.1)
+returns c = (numbered done c.number.ensures c.apply_saturation.ensures.0, c.apply_saturation.ensures.1)
 
 pub silk_apply_saturation_spec : {M : Type 1} → statement M
 silk_apply_saturation_spec =

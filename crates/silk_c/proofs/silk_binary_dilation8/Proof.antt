@@ -18,7 +18,7 @@ same-length-2 : tie.Need-shape_of-work
 same-length-2 c = search rules
 
 returns : tie.Need-returns
-returns c = (numbered done c.number.ensures c.before.before.before.before.before.binary_dilation8.ensures.0, c.before.before.before.before.before.binary_dilation8.ensures.1)
+returns c = (numbered done c.number.ensures c.binary_dilation8.ensures.0, c.binary_dilation8.ensures.1)
 
 pub silk_binary_dilation8_spec : {M : Type 1} → statement M
 silk_binary_dilation8_spec =

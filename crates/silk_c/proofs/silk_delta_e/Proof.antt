@@ -15,7 +15,7 @@ same_length : tie.Need-shape_of-out
 same_length c = search rules
 
 returns : tie.Need-returns
-returns c = (numbered done c.number.ensures c.before.before.before.delta_e.ensures.0, c.before.before.before.delta_e.ensures.1)
+returns c = (numbered done c.number.ensures c.delta_e.ensures.0, c.delta_e.ensures.1)
 
 pub silk_delta_e_spec : {M : Type 1} → statement M
 silk_delta_e_spec = tie.close (tie.spec

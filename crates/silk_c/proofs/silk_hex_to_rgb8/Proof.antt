@@ -24,9 +24,7 @@ same_length c = search rules
 returns-2 : tie.Need-returns
 unfolding refusal
 returns-2 c =
-    let t = c.before.before in
-    let x = t.before.before in
-    answered _ (row-pass (row 2 _) [] (le-ltb _ _ x.before.if-out-lt3.false)) coloured _ t.tell_colour.ensures x.hex_to_rgb8-answer.ensures
+    answered _ (row-pass (row 2 _) [] (le-ltb _ _ c.if-out-lt3.false)) coloured _ c.tell_colour.ensures c.hex_to_rgb8-answer.ensures
 
 pub silk_hex_to_rgb8_spec : {M : Type 1} → statement M
 silk_hex_to_rgb8_spec =

@@ -15,7 +15,7 @@ same_length : tie.Need-shape_of-out
 same_length c = search rules
 
 returns : tie.Need-returns
-returns c = (numbered done c.number.ensures c.before.before.before.lab_to_rgb8.ensures.0, c.before.before.before.lab_to_rgb8.ensures.1)
+returns c = (numbered done c.number.ensures c.lab_to_rgb8.ensures.0, c.lab_to_rgb8.ensures.1)
 
 pub silk_lab_to_rgb8_spec : {M : Type 1} → statement M
 silk_lab_to_rgb8_spec =

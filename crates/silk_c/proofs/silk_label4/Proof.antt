@@ -16,7 +16,7 @@ cast-result c = search rules
 
 returns : tie.Need-returns-in-Refused
 unfolding after_facts_rows
-returns c = turned_one _ c.before.before.before.facts_rows.ensures c.before.n-1.given.1 _ _ _ _
+returns c = turned_one _ c.facts_rows.ensures c.in-Refused.is _ _ _ _
 
 enum_told : tie.Need-enum_told-1
 enum_told c = search rules
@@ -26,8 +26,7 @@ label4-requires c κs = search rules
 
 tell-regions-requires : tie.Need-tell_regions-requires
 tell-regions-requires c κs =
-    let u = c.before.before.before.before.before.before.before.before in
-    roomy _ _ _ _ u.before.before.facts_rows.ensures u.enum_told-1.given.1
+    roomy _ _ _ _ c.facts_rows.ensures c.in_default.is
 
 same_length : tie.Need-shape_of-labels
 same_length c = search rules
@@ -41,10 +40,7 @@ same-length-3 c = search rules
 returns-2 : tie.Need-returns
 unfolding after_facts_rows
 returns-2 c =
-    let t = c.before.before in
-    let l = t.before.before.before.before.before.before in
-    let u = l.before.before.before in
-    heard_one _ u.before.before.facts_rows.ensures u.enum_told-1.given.1 labelled _ t.tell_regions.ensures _ l.label4-answer.ensures
+    heard_one _ c.facts_rows.ensures c.in_default.is labelled _ c.tell_regions.ensures _ c.label4-answer.ensures
 
 pub silk_label4_spec : {M : Type 1} → statement M
 silk_label4_spec =

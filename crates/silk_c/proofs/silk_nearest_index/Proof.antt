@@ -15,7 +15,7 @@ same_length : tie.Need-shape_of-out
 same_length c = search rules
 
 returns : tie.Need-returns
-returns c = (numbered done c.number.ensures c.before.before.nearest_index.ensures.0, c.before.before.nearest_index.ensures.1)
+returns c = (numbered done c.number.ensures c.nearest_index.ensures.0, c.nearest_index.ensures.1)
 
 pub silk_nearest_index_spec : {M : Type 1} → statement M
 silk_nearest_index_spec =

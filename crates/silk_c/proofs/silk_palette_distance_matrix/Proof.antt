@@ -15,7 +15,7 @@ same_length : tie.Need-shape_of-out
 same_length c = search rules
 
 returns : tie.Need-returns
-returns c = (numbered done c.number.ensures c.before.before.before.palette_distance_matrix.ensures.0, c.before.before.before.palette_distance_matrix.ensures.1)
+returns c = (numbered done c.number.ensures c.palette_distance_matrix.ensures.0, c.palette_distance_matrix.ensures.1)
 
 pub silk_palette_distance_matrix_spec : {M : Type 1} → statement M
 silk_palette_distance_matrix_spec =

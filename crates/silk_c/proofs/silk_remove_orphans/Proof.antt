@@ -17,7 +17,7 @@ cast-result c = search rules
 
 returns : tie.Need-returns-in-Refused
 unfolding after_facts_rows
-returns c = turned_one _ c.before.before.before.facts_rows.ensures c.before.n-1.given.1 _ _ _ _
+returns c = turned_one _ c.facts_rows.ensures c.in-Refused.is _ _ _ _
 
 enum_told : tie.Need-enum_told-1
 enum_told c = search rules
@@ -27,8 +27,7 @@ remove-orphans-requires c κs = search rules
 
 tell-passes-requires : tie.Need-tell_passes-requires
 tell-passes-requires c κs =
-    let u = c.before.before.before.before.before.before.before in
-    roomy _ _ _ _ u.before.before.facts_rows.ensures u.enum_told-1.given.1
+    roomy _ _ _ _ c.facts_rows.ensures c.in_default.is
 
 same_length : tie.Need-shape_of-cells
 same_length c = search rules
@@ -42,12 +41,8 @@ same-length-3 c = search rules
 returns-2 : tie.Need-returns
 unfolding after_facts_rows
 returns-2 c =
-    let t = c.before.before in
-    let l = t.before.before.before.before.before in
-    let u = l.before.before.before in
-    let s = u.before.before.before.before.before.before in
-    let r = rw (to_z-of_z s.ranges.orphan-min-region) at l.remove_orphans-answer.ensures in
-    heard_one _ u.before.before.facts_rows.ensures u.enum_told-1.given.1 cleaned _ t.tell_passes.ensures _ r
+    let r = rw (to_z-of_z c.ranges.orphan-min-region) at c.remove_orphans-answer.ensures in
+    heard_one _ c.facts_rows.ensures c.in_default.is cleaned _ c.tell_passes.ensures _ r
 
 pub silk_remove_orphans_spec : {M : Type 1} → statement M
 silk_remove_orphans_spec =

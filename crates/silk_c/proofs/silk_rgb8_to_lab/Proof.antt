@@ -15,7 +15,7 @@ same_length : tie.Need-shape_of-out
 same_length c = search rules
 
 returns : tie.Need-returns
-returns c = (numbered done c.number.ensures c.before.before.before.rgb8_to_lab.ensures.0, c.before.before.before.rgb8_to_lab.ensures.1)
+returns c = (numbered done c.number.ensures c.rgb8_to_lab.ensures.0, c.rgb8_to_lab.ensures.1)
 
 pub silk_rgb8_to_lab_spec : {M : Type 1} → statement M
 silk_rgb8_to_lab_spec =

@@ -18,7 +18,7 @@ cast-result c = search rules
 
 returns : tie.Need-returns-in-Refused
 unfolding after_facts_rows
-returns c = turned_two _ c.before.before.before.facts_rows.ensures c.before.n-1.given.1 _ _ _ _ _ _
+returns c = turned_two _ c.facts_rows.ensures c.in-Refused.is _ _ _ _ _ _
 
 enum_told : tie.Need-enum_told-1
 enum_told c = search rules
@@ -43,9 +43,7 @@ run-requires c κs = search rules
 
 tell-run-requires : tie.Need-tell_run-requires
 tell-run-requires c κs =
-    let l = c.before.before.before.before.before.before in
-    let u = l.before.before.before.before.before.before.before.before.before in
-    (processed-small _ l.run-answer.ensures.0, roomy _ _ _ _ u.before.before.facts_rows.ensures u.enum_told-1.given.1)
+    (processed-small _ c.run-answer.ensures.0, roomy _ _ _ _ c.facts_rows.ensures c.in_default.is)
 
 same_length : tie.Need-shape_of-cells
 same_length c = search rules
@@ -62,21 +60,16 @@ same-length-4 c = search rules
 returns-2 : tie.Need-returns
 unfolding after_facts_rows
 returns-2 c =
-    let t = c.before.before in
-    let l = t.before.before.before.before.before.before.before in
-    let i = l.before.before.before.before in
-    let u = i.before.before.before.before.before in
-    let s = u.before.before.before.before.before.before in
     let r = rw (
-      i.before.before.config_of-config.ensures,
-      i.before.before.before.before.beta_of-tone.ensures,
-      i.before.before.before.outline_of-line.ensures,
-      i.before.is_set-toned.ensures,
-      i.is_set-fixed.ensures,
-      to_z-of_z s.ranges.region,
-      to_z-of_z s.ranges.margin,
-    ) at l.run-answer.ensures in
-    heard_two _ u.before.before.facts_rows.ensures u.enum_told-1.given.1 processed _ t.tell_run.ensures _ _ r
+      c.config_of-config.ensures,
+      c.beta_of-tone.ensures,
+      c.outline_of-line.ensures,
+      c.is_set-toned.ensures,
+      c.is_set-fixed.ensures,
+      to_z-of_z c.ranges.region,
+      to_z-of_z c.ranges.margin,
+    ) at c.run-answer.ensures in
+    heard_two _ c.facts_rows.ensures c.in_default.is processed _ c.tell_run.ensures _ _ r
 
 pub silk_run_spec : {M : Type 1} → statement M
 silk_run_spec =

@@ -9,25 +9,25 @@ cast-z : tie.Need-overflow_cast-z
 cast-z c = wide_fits _ c.ranges.c
 
 sub-m : tie.Need-overflow_sub-m
-sub-m c = flip_fits _ c.before.ranges.c
+sub-m c = flip_fits _ c.ranges.c
 
 cast-result : tie.Need-overflow_cast-result
 cast-result c =
-    let z = c.before.args.c in
-    let f = c.before.ranges.c in
+    let z = c.args.c in
+    let f = c.ranges.c in
     rw (flip_is z f) (flip_sign z (rw (wide_is z f) at c.if-z-lt0.true), rw (flip_size z) (size_fits z f))
 
 returns : tie.Need-returns-then-z-lt0
-returns c = ap nat_abs (flip_is _ c.before.ranges.c) ∙ flip_size c.before.args.c
+returns c = ap nat_abs (flip_is _ c.ranges.c) ∙ flip_size c.args.c
 
 cast-result-2 : tie.Need-overflow_cast-result-2
 cast-result-2 c =
-    let z = c.before.args.c in
-    let f = c.before.ranges.c in
+    let z = c.args.c in
+    let f = c.ranges.c in
     rw (wide_is z f) (keep_sign z (rw (wide_is z f) at c.if-z-lt0.false), size_fits z f)
 
 returns-2 : tie.Need-returns
-returns-2 c = ap nat_abs (wide_is _ c.before.ranges.c)
+returns-2 c = ap nat_abs (wide_is _ c.ranges.c)
 
 pub magnitude_spec : {M : Type 1} → statement M
 magnitude_spec = tie.close (tie.spec

@@ -9,13 +9,6 @@ use Rattle.silk_print.proofs.Outcome.{printed_no, printed_yes}
 use Rattle.silk_print.proofs.print_refusal.Statement.{statement}
 use Rattle.silk_print.proofs.print_refusal.Tie as tie
 
--- places on the way, each seen from a later one
-abbrev bytes : tie.After-put_refusal-end → tie.After-put_bytes-value
-bytes c = c.before.before.before.before
-
-abbrev refusal : tie.After-put_bytes → tie.After-put_refusal-end
-refusal c = c.before.before.before.before.before
-
 returns : tie.Need-returns-then-out-lt12
 unfolding refusal_fits
 returns c = printed_no (lt-leb 12 _ c.if-out-lt12.true) _ _
@@ -24,12 +17,11 @@ put-bytes-requires : tie.Need-put_bytes-value-requires
 put-bytes-requires c κs = omega arith
 
 put-refusal-requires : tie.Need-put_refusal-end-requires
-put-refusal-requires c κs = put_room c.before.before.before.put_bytes-value.ensures 3 (omega arith)
+put-refusal-requires c κs = put_room c.put_bytes-value.ensures 3 (omega arith)
 
 put-bytes-requires-2 : tie.Need-put_bytes-requires
 put-bytes-requires-2 c κs =
-    let at-refusal = c.before.before.before.before in
-    third_room (bytes at-refusal).put_bytes-value.ensures at-refusal.put_refusal-end.ensures 1 (omega arith)
+    third_room c.put_bytes-value.ensures c.put_refusal-end.ensures 1 (omega arith)
 
 same_length : tie.Need-shape_of-out
 same_length c = search rules
@@ -37,9 +29,7 @@ same_length c = search rules
 returns-2 : tie.Need-returns
 unfolding refusal_fits refusal_text number_text codes newline
 returns-2 c =
-    let bytes2 = c.before.before in
-    let other1 = (bytes (refusal bytes2)).before.before.before in
-    printed_yes (le-leb 12 _ other1.if-out-lt12.false) (put_three (bytes (refusal bytes2)).put_bytes-value.ensures (refusal bytes2).put_refusal-end.ensures bytes2.put_bytes.ensures other1.if-out-lt12.false)
+    printed_yes (le-leb 12 _ c.if-out-lt12.false) (put_three c.put_bytes-value.ensures c.put_refusal-end.ensures c.put_bytes.ensures c.if-out-lt12.false)
 
 pub print_refusal_spec : {M : Type 1} → statement M
 print_refusal_spec = tie.close (tie.spec

@@ -26,7 +26,7 @@ shared-slice-read-out : tie.Need-bounds-bytes-i invariant-loop decreases-loop
 shared-slice-read-out c = omega arith
 
 slice-write-out : tie.Need-bounds-out-place invariant-loop decreases-loop
-slice-write-out c = omega (arith, c.before.before.loop-i.invariant.kept)
+slice-write-out c = omega (arith, c.loop-i.invariant.kept)
 
 add-i : tie.Need-overflow_add-i invariant-loop decreases-loop
 add-i c = omega arith
@@ -35,16 +35,16 @@ loop-less : tie.Need-loop-i-smaller invariant-loop decreases-loop
 loop-less c = omega arith
 
 loop-again : tie.Need-loop-i-preserved invariant-loop decreases-loop
-loop-again c = copied_more c.before.before.loop-i.invariant 0 c.before.loop-i-test.true (le_refl _) c.before.before.before.requires refl refl
+loop-again c = copied_more c.loop-i.invariant 0 c.loop-i-test.true (le_refl _) c.requires refl refl
 
 add-result : tie.Need-overflow_add-result invariant-loop decreases-loop
-add-result c = omega (arith, c.before.loop-i.invariant.inside)
+add-result c = omega (arith, c.loop-i.invariant.inside)
 
 same_length : tie.Need-shape_of-out invariant-loop decreases-loop
-same_length c = c.before.loop-i.invariant.kept
+same_length c = c.loop-i.invariant.kept
 
 returns : tie.Need-returns invariant-loop decreases-loop
-returns c = copied_put c.before.loop-i.invariant c.loop-i-test.false
+returns c = copied_put c.loop-i.invariant c.loop-i-test.false
 
 pub put_bytes_spec : {M : Type 1} → statement M
 put_bytes_spec =

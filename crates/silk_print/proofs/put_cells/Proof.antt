@@ -30,8 +30,7 @@ shared-slice-copy-out-put-cell c = omega arith
 
 put-cell-requires : tie.Need-put_cell-to-requires invariant-loop decreases-loop
 put-cell-requires c κs =
-    let loop = c.before.before.before in
-    printing_room loop.loop-x.invariant c.before.before.loop-x-test.true loop.before.before.requires.1
+    printing_room c.loop-x.invariant c.loop-x-test.true c.requires.1
 
 add-x : tie.Need-overflow_add-x invariant-loop decreases-loop
 add-x c = omega arith
@@ -41,18 +40,15 @@ loop-less c = omega arith
 
 loop-again : tie.Need-loop-x-preserved invariant-loop decreases-loop
 loop-again c =
-    let cell-arg2 = c.before.before.before in
-    let loop = cell-arg2.before.before.before in
-    let s = loop.before.before in
-    let fits = to_z-of_z {w = w32} {z = get_or s.args.cells.now (s.args.from + loop.loop-x.x) (pos 0)} (record { sfits = cell-arg2.put_cell-arg-in-loop-x-1.given }) in
-    printing_more loop.loop-x.invariant cell-arg2.before.before.loop-x-test.true s.requires.1 (rw fits at c.before.before.put_cell-to.ensures)
+    let fits = to_z-of_z {w = w32} {z = get_or c.args.cells.now (c.args.from + c.loop-x.x) (pos 0)} (record { sfits = c.put_cell-arg-in-loop-x-1.given }) in
+    printing_more c.loop-x.invariant c.loop-x-test.true c.requires.1 (rw fits at c.put_cell-to.ensures)
 
 same_length : tie.Need-shape_of-out invariant-loop decreases-loop
-same_length c = c.before.loop-x.invariant.kept
+same_length c = c.loop-x.invariant.kept
 
 returns : tie.Need-returns invariant-loop decreases-loop
 unfolding cells_text
-returns c = printing_all c.before.loop-x.invariant c.loop-x-test.false
+returns c = printing_all c.loop-x.invariant c.loop-x-test.false
 
 pub put_cells_spec : {M : Type 1} → statement M
 put_cells_spec = tie.close (tie.spec

@@ -15,8 +15,7 @@ same_length c = search rules
 returns : tie.Need-returns-then-clipped
 unfolding clipped_text codes
 returns c =
-    let bytes = c.before.before in
-    rw bytes.before.before.before.if-clipped.true bytes.put_bytes.ensures
+    rw c.if-clipped.true c.put_bytes.ensures
 
 put-bytes-requires-2 : tie.Need-put_bytes-requires-2
 put-bytes-requires-2 c κs = omega arith
@@ -27,8 +26,7 @@ same-length-2 c = search rules
 returns-2 : tie.Need-returns
 unfolding clipped_text codes
 returns-2 c =
-    let bytes2 = c.before.before in
-    rw bytes2.before.before.before.if-clipped.false bytes2.put_bytes-2.ensures
+    rw c.if-clipped.false c.put_bytes-2.ensures
 
 pub put_clipped_spec : {M : Type 1} → statement M
 put_clipped_spec = tie.close (tie.spec

@@ -14,9 +14,6 @@ invariant-loop out₀ at palette k table to₀ i₀ out to i = Printing (λ j. c
 abbrev decreases-loop : tie.decreases-loop-i
 decreases-loop out₀ at palette k table to₀ i₀ out to i = k - i
 
-abbrev start : tie.At-loop-i invariant-loop decreases-loop → tie.Start invariant-loop decreases-loop
-start c = c.before.before.before.before
-
 threshold-table-requires : tie.Need-threshold_table-table-requires invariant-loop decreases-loop
 threshold-table-requires c κs = tt
 
@@ -30,12 +27,11 @@ slice-aggregate-lab-to-rgb8-by : tie.Need-slice_bounds-lab_to_rgb8_by-end invari
 slice-aggregate-lab-to-rgb8-by c = search rules
 
 lab-to-rgb8-by-requires : tie.Need-lab_to_rgb8_by-requires invariant-loop decreases-loop
-lab-to-rgb8-by-requires c κs = c.before.before.before.before.before.threshold_table-table.ensures
+lab-to-rgb8-by-requires c κs = c.threshold_table-table.ensures
 
 put-colour-line-requires : tie.Need-put_colour_line-to-requires invariant-loop decreases-loop
 put-colour-line-requires c κs =
-    let turn = c.before.before.before.before in
-    printing_room turn.before.loop-i.invariant turn.loop-i-test.true (start turn.before).requires.1
+    printing_room c.loop-i.invariant c.loop-i-test.true c.requires.1
 
 add-i : tie.Need-overflow_add-i invariant-loop decreases-loop
 add-i c = omega arith
@@ -45,17 +41,15 @@ loop-less c = omega arith
 
 loop-again : tie.Need-loop-i-preserved invariant-loop decreases-loop
 loop-again c =
-    let made = c.before.before.before in
-    let turn = made.before.before.before.before in
-    printing_more turn.before.loop-i.invariant turn.loop-i-test.true (start turn.before).requires.1
-    (rw (made.lab_to_rgb8_by.ensures, made.before.before.before.entry-lab.ensures) at c.before.before.put_colour_line-to.ensures)
+    printing_more c.loop-i.invariant c.loop-i-test.true c.requires.1
+    (rw (c.lab_to_rgb8_by.ensures, c.entry-lab.ensures) at c.put_colour_line-to.ensures)
 
 same_length : tie.Need-shape_of-out invariant-loop decreases-loop
-same_length c = c.before.loop-i.invariant.kept
+same_length c = c.loop-i.invariant.kept
 
 returns : tie.Need-returns invariant-loop decreases-loop
 unfolding colours_text
-returns c = printing_all c.before.loop-i.invariant c.loop-i-test.false
+returns c = printing_all c.loop-i.invariant c.loop-i-test.false
 
 pub put_colours_spec : {M : Type 1} → statement M
 put_colours_spec =

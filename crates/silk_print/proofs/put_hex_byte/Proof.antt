@@ -24,9 +24,7 @@ same_length c = search rules
 returns : tie.Need-returns
 unfolding hex_byte
 returns c =
-    let hex-digit2 = c.before.before.before in
-    let byte = hex-digit2.before.before.before.before in
-    rw (← byte.before.hex_digit.ensures, ← hex-digit2.hex_digit-2.ensures) (put_both byte.put_byte-next.ensures c.before.before.put_byte.ensures (omega arith))
+    rw (← c.hex_digit.ensures, ← c.hex_digit-2.ensures) (put_both c.put_byte-next.ensures c.put_byte.ensures (omega arith))
 
 pub put_hex_byte_spec : {M : Type 1} → statement M
 put_hex_byte_spec = tie.close (tie.spec

@@ -29,8 +29,7 @@ same_length c = search rules
 returns : tie.Need-returns-in-Nothing
 unfolding index_text codes
 returns c =
-    let bytes = c.before.before in
-    rw bytes.before.before.before.enum_told-1.given.1 (put_as bytes.put_bytes.ensures refl (omega arith))
+    rw c.in-Nothing.is (put_as c.put_bytes.ensures refl (omega arith))
 
 same-length-2 : tie.Need-shape_of-out-in-Entry
 same-length-2 c = search rules
@@ -38,8 +37,7 @@ same-length-2 c = search rules
 returns-2 : tie.Need-returns-in-Entry
 unfolding index_text codes
 returns-2 c =
-    let number-line = c.before.before in
-    rw number-line.before.before.before.before.index-1.given.1 number-line.put_number_line.ensures
+    rw c.in-Entry.is c.put_number_line.ensures
 
 pub put_index_spec : {M : Type 1} → statement M
 put_index_spec = tie.close (tie.spec

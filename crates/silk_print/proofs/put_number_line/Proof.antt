@@ -9,28 +9,16 @@ use Rattle.silk_print.proofs.Digits.{numeral_short}
 use Rattle.silk_print.proofs.put_number_line.Statement.{statement}
 use Rattle.silk_print.proofs.put_number_line.Tie as tie
 
--- places on the way, each seen from a later one
-abbrev start : tie.After-put_bytes-value → tie.Start
-start c = c.before.before.before.before
-
-abbrev bytes : tie.After-put_number-end → tie.After-put_bytes-value
-bytes c = c.before.before.before.before
-
-abbrev number : tie.After-put_bytes → tie.After-put_number-end
-number c = c.before.before.before.before.before
-
 put-bytes-requires : tie.Need-put_bytes-value-requires
 put-bytes-requires c κs = omega arith
 
 put-number-requires : tie.Need-put_number-end-requires
 put-number-requires c κs =
-    let at-bytes = c.before.before.before in
-    put_room at-bytes.put_bytes-value.ensures _ (omega (arith, numeral_short 9 _ (start at-bytes).requires.0))
+    put_room c.put_bytes-value.ensures _ (omega (arith, numeral_short 9 _ c.requires.0))
 
 put-bytes-requires-2 : tie.Need-put_bytes-requires
 put-bytes-requires-2 c κs =
-    let at-number = c.before.before.before.before in
-    third_room (bytes at-number).put_bytes-value.ensures at-number.put_number-end.ensures 1 (omega (arith, numeral_short 9 _ (start (bytes at-number)).requires.0))
+    third_room c.put_bytes-value.ensures c.put_number-end.ensures 1 (omega (arith, numeral_short 9 _ c.requires.0))
 
 same_length : tie.Need-shape_of-out
 same_length c = search rules
@@ -38,9 +26,8 @@ same_length c = search rules
 returns : tie.Need-returns
 unfolding number_text newline
 returns c =
-    let bytes2 = c.before.before in
-    let s = numeral_short 9 _ (start (bytes (number bytes2))).requires.0 in
-    put_as (put_three (bytes (number bytes2)).put_bytes-value.ensures (number bytes2).put_number-end.ensures bytes2.put_bytes.ensures (omega arith)) refl (omega arith)
+    let s = numeral_short 9 _ c.requires.0 in
+    put_as (put_three c.put_bytes-value.ensures c.put_number-end.ensures c.put_bytes.ensures (omega arith)) refl (omega arith)
 
 pub put_number_line_spec : {M : Type 1} → statement M
 put_number_line_spec = tie.close (tie.spec

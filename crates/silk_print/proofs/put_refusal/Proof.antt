@@ -15,22 +15,20 @@ put-byte-requires : tie.Need-put_byte-requires
 put-byte-requires c κs = omega arith
 
 put-number-requires : tie.Need-put_number-requires
-put-number-requires c κs = omega (arith, numeral_short 2 c.before.before.before.args.n (omega arith))
+put-number-requires c κs = omega (arith, numeral_short 2 c.args.n (omega arith))
 
 same_length : tie.Need-shape_of-out-in-0-to-9
 same_length c = search rules
 
 returns : tie.Need-returns-in-0-to-9
 returns c =
-    let byte = c.before.before in
-    let start = byte.before.before.before.before in
-    put_as (number_one {n = start.args.n} (omega arith) refl byte.put_byte.ensures) refl (omega (arith, ap length (numeral_one start.args.n (omega arith))))
+    put_as (number_one {n = c.args.n} (omega arith) refl c.put_byte.ensures) refl (omega (arith, ap length (numeral_one c.args.n (omega arith))))
 
 same-length-2 : tie.Need-shape_of-out-in_default
 same-length-2 c = search rules
 
 returns-2 : tie.Need-returns-in_default
-returns-2 c = put_as c.before.before.put_number.ensures refl (numeral_short 2 _ (omega arith))
+returns-2 c = put_as c.put_number.ensures refl (numeral_short 2 _ (omega arith))
 
 pub put_refusal_spec : {M : Type 1} → statement M
 put_refusal_spec = tie.close (tie.spec

@@ -8,25 +8,16 @@ use Rattle.silk_print.proofs.Printing.{put_as, put_room, third_room, put_three}
 use Rattle.silk_print.proofs.put_row.Statement.{statement}
 use Rattle.silk_print.proofs.put_row.Tie as tie
 
--- places on the way, each seen from a later one
-abbrev bytes : tie.After-put_cells-last → tie.After-put_bytes-first
-bytes c = c.before.before.before.before
-
-abbrev cells : tie.After-put_bytes → tie.After-put_cells-last
-cells c = c.before.before.before.before.before
-
 put-bytes-requires : tie.Need-put_bytes-first-requires
 put-bytes-requires c κs = omega arith
 
 put-cells-requires : tie.Need-put_cells-last-requires
 put-cells-requires c κs =
-    let at-bytes = c.before.before.before in
-    (at-bytes.before.before.before.before.requires.0, put_room at-bytes.put_bytes-first.ensures _ (omega arith))
+    (c.requires.0, put_room c.put_bytes-first.ensures _ (omega arith))
 
 put-bytes-requires-2 : tie.Need-put_bytes-requires
 put-bytes-requires-2 c κs =
-    let at_cells = c.before.before.before.before in
-    third_room (bytes at_cells).put_bytes-first.ensures at_cells.put_cells-last.ensures 1 (omega arith)
+    third_room c.put_bytes-first.ensures c.put_cells-last.ensures 1 (omega arith)
 
 same_length : tie.Need-shape_of-out
 same_length c = search rules
@@ -34,8 +25,7 @@ same_length c = search rules
 returns : tie.Need-returns
 unfolding row_text codes newline
 returns c =
-    let bytes2 = c.before.before in
-    put_as (put_three (bytes (cells bytes2)).put_bytes-first.ensures (cells bytes2).put_cells-last.ensures bytes2.put_bytes.ensures (omega arith)) refl (omega arith)
+    put_as (put_three c.put_bytes-first.ensures c.put_cells-last.ensures c.put_bytes.ensures (omega arith)) refl (omega arith)
 
 pub put_row_spec : {M : Type 1} → statement M
 put_row_spec = tie.close (tie.spec

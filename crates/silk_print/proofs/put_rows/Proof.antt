@@ -18,13 +18,11 @@ loop-holds c = printing_none _ _ _ _ _
 
 mul-from : tie.Need-overflow_mul-from invariant-loop decreases-loop
 mul-from c =
-    let start = c.before.before.before in
-    omega (arith, row_fits start.args.h start.args.w _ c.before.loop-y.y start.requires.0 c.loop-y-test.true)
+    omega (arith, row_fits c.args.h c.args.w _ c.loop-y.y c.requires.0 c.loop-y-test.true)
 
 put-row-requires : tie.Need-put_row-to-requires invariant-loop decreases-loop
 put-row-requires c κs =
-    let loop = c.before.before in
-    (row_fits loop.before.before.args.h loop.before.before.args.w _ loop.loop-y.y loop.before.before.requires.0 c.before.loop-y-test.true, printing_room loop.loop-y.invariant c.before.loop-y-test.true loop.before.before.requires.1)
+    (row_fits c.args.h c.args.w _ c.loop-y.y c.requires.0 c.loop-y-test.true, printing_room c.loop-y.invariant c.loop-y-test.true c.requires.1)
 
 add-y : tie.Need-overflow_add-y invariant-loop decreases-loop
 add-y c = omega arith
@@ -34,17 +32,14 @@ loop-less c = omega arith
 
 loop-again : tie.Need-loop-y-preserved invariant-loop decreases-loop
 loop-again c =
-    let row = c.before.before in
-    let turn = row.before.before in
-    let loop = turn.before in
-    printing_more loop.loop-y.invariant turn.loop-y-test.true loop.before.before.requires.1 row.put_row-to.ensures
+    printing_more c.loop-y.invariant c.loop-y-test.true c.requires.1 c.put_row-to.ensures
 
 same_length : tie.Need-shape_of-out invariant-loop decreases-loop
-same_length c = c.before.loop-y.invariant.kept
+same_length c = c.loop-y.invariant.kept
 
 returns : tie.Need-returns invariant-loop decreases-loop
 unfolding rows_text
-returns c = printing_all c.before.loop-y.invariant c.loop-y-test.false
+returns c = printing_all c.loop-y.invariant c.loop-y-test.false
 
 pub put_rows_spec : {M : Type 1} → statement M
 put_rows_spec = tie.close (tie.spec

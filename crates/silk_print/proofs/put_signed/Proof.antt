@@ -18,35 +18,25 @@ put-byte-requires c κs = search rules
 
 put-number-requires : tie.Need-put_number-requires
 put-number-requires c κs =
-    let byte = c.before.before.before in
-    let magnitude = byte.before.before.before.before in
-    put_room byte.put_byte-next.ensures _ (omega (arith, size_short magnitude.before.before.ranges.c magnitude.magnitude-n.ensures))
+    put_room c.put_byte-next.ensures _ (omega (arith, size_short c.ranges.c c.magnitude-n.ensures))
 
 same_length : tie.Need-shape_of-out-then-is_negative
 same_length c = search rules
 
 returns : tie.Need-returns-then-is_negative
 returns c =
-    let number = c.before.before in
-    let byte = number.before.before.before.before in
-    let then1 = byte.before.before in
-    let magnitude = then1.before.before in
-    signed_below magnitude.before.before.ranges.c magnitude.magnitude-n.ensures (sym then1.before.is_negative.ensures ∙ then1.if-is_negative.true) byte.put_byte-next.ensures number.put_number.ensures magnitude.before.before.requires
+    signed_below c.ranges.c c.magnitude-n.ensures (sym c.is_negative.ensures ∙ c.if-is_negative.true) c.put_byte-next.ensures c.put_number.ensures c.requires
 
 put-number-requires-2 : tie.Need-put_number-requires-2
 put-number-requires-2 c κs =
-    let magnitude = c.before.before.before in
-    omega (arith, size_short magnitude.before.before.ranges.c magnitude.magnitude-n.ensures)
+    omega (arith, size_short c.ranges.c c.magnitude-n.ensures)
 
 same-length-2 : tie.Need-shape_of-out
 same-length-2 c = search rules
 
 returns-2 : tie.Need-returns
 returns-2 c =
-    let number2 = c.before.before in
-    let other1 = number2.before.before in
-    let magnitude = other1.before.before in
-    signed_from magnitude.before.before.ranges.c magnitude.magnitude-n.ensures (sym other1.before.is_negative.ensures ∙ other1.if-is_negative.false) number2.put_number-2.ensures
+    signed_from c.ranges.c c.magnitude-n.ensures (sym c.is_negative.ensures ∙ c.if-is_negative.false) c.put_number-2.ensures
 
 pub put_signed_spec : {M : Type 1} → statement M
 put_signed_spec = tie.close (tie.spec

@@ -30,13 +30,13 @@ loop-less : tie.Need-loop-end-smaller invariant-loop decreases-loop
 loop-less c = omega arith
 
 loop-again : tie.Need-loop-end-preserved invariant-loop decreases-loop
-loop-again c = passed_more c.before.before.before.before.loop-end.invariant c.before.before.before.loop-end-test.true (sym c.before.is_digit.ensures ∙ c.if-is_digit.true)
+loop-again c = passed_more c.loop-end.invariant c.loop-end-test.true (sym c.is_digit.ensures ∙ c.if-is_digit.true)
 
 returns : tie.Need-returns-else-is_digit invariant-loop decreases-loop
-returns c = passed_to c.before.before.before.before.loop-end.invariant c.before.before.before.loop-end-test.true (sym c.before.is_digit.ensures ∙ c.if-is_digit.false)
+returns c = passed_to c.loop-end.invariant c.loop-end-test.true (sym c.is_digit.ensures ∙ c.if-is_digit.false)
 
 returns-2 : tie.Need-returns-after-loop-end invariant-loop decreases-loop
-returns-2 c = passed_all c.before.loop-end.invariant c.loop-end-test.false
+returns-2 c = passed_all c.loop-end.invariant c.loop-end-test.false
 
 pub digits_end_spec : {M : Type 1} → statement M
 digits_end_spec =

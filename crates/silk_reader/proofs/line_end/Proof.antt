@@ -28,14 +28,14 @@ loop-less c = omega arith
 
 loop-again : tie.Need-loop-end-preserved invariant-loop decreases-loop
 unfolding in_line
-loop-again c = passed_more c.before.before.before.loop-end.invariant c.before.before.loop-end-test.true c.if-text-end-ne10.true
+loop-again c = passed_more c.loop-end.invariant c.loop-end-test.true c.if-text-end-ne10.true
 
 returns : tie.Need-returns-else-text-end-ne10 invariant-loop decreases-loop
 unfolding in_line
-returns c = passed_to c.before.before.before.loop-end.invariant c.before.before.loop-end-test.true c.if-text-end-ne10.false
+returns c = passed_to c.loop-end.invariant c.loop-end-test.true c.if-text-end-ne10.false
 
 returns-2 : tie.Need-returns-after-loop-end invariant-loop decreases-loop
-returns-2 c = passed_all c.before.loop-end.invariant c.loop-end-test.false
+returns-2 c = passed_all c.loop-end.invariant c.loop-end-test.false
 
 pub line_end_spec : {M : Type 1} → statement M
 line_end_spec =

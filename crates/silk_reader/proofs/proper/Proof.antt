@@ -8,13 +8,13 @@ shared-slice-read-result : tie.Need-bounds-digits-0
 shared-slice-read-result c = omega arith
 
 returns : tie.Need-returns-in-1
-returns c = proper_one _ c.in-1.keys1
+returns c = proper_one _ c.in-1.is
 
 returns-2 : tie.Need-returns-in-2-to-9
 returns-2 c = proper_some _ (omega arith) (omega arith)
 
 returns-3 : tie.Need-returns-in_default
-returns-3 c = proper_none _ (omega arith) c.before.in-1.rest.1
+returns-3 c = proper_none _ (omega arith) c.in_default-1.rest.1
 
 returns-4 : tie.Need-returns-in_default-2
 returns-4 c = proper_many _ (omega arith)

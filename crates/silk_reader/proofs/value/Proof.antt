@@ -19,16 +19,16 @@ shared-slice-read-d : tie.Need-bounds-digits-i invariant-loop decreases-loop
 shared-slice-read-d c = omega arith
 
 sub-d : tie.Need-overflow_sub-d invariant-loop decreases-loop
-sub-d c = omega (arith, digit_at c.before.before.before.requires c.before.before.loop-i.invariant c.before.loop-i-test.true)
+sub-d c = omega (arith, digit_at c.requires c.loop-i.invariant c.loop-i-test.true)
 
 mul-v : tie.Need-overflow_mul-v invariant-loop decreases-loop
-mul-v c = omega (arith, valued_fits c.before.before.before.requires c.before.before.loop-i.invariant c.before.loop-i-test.true)
+mul-v c = omega (arith, valued_fits c.requires c.loop-i.invariant c.loop-i-test.true)
 
 cast-v : tie.Need-overflow_cast-v invariant-loop decreases-loop
-cast-v c = omega (arith, digit_at c.before.before.before.requires c.before.before.loop-i.invariant c.before.loop-i-test.true)
+cast-v c = omega (arith, digit_at c.requires c.loop-i.invariant c.loop-i-test.true)
 
 add-v : tie.Need-overflow_add-v invariant-loop decreases-loop
-add-v c = omega (arith, valued_fits c.before.before.before.requires c.before.before.loop-i.invariant c.before.loop-i-test.true)
+add-v c = omega (arith, valued_fits c.requires c.loop-i.invariant c.loop-i-test.true)
 
 add-i : tie.Need-overflow_add-i invariant-loop decreases-loop
 add-i c = omega arith
@@ -37,10 +37,10 @@ loop-less : tie.Need-loop-i-smaller invariant-loop decreases-loop
 loop-less c = omega arith
 
 loop-again : tie.Need-loop-i-preserved invariant-loop decreases-loop
-loop-again c = valued_more c.before.before.before.requires c.before.before.loop-i.invariant c.before.loop-i-test.true
+loop-again c = valued_more c.requires c.loop-i.invariant c.loop-i-test.true
 
 returns : tie.Need-returns invariant-loop decreases-loop
-returns c = valued_all c.before.before.requires c.before.loop-i.invariant c.loop-i-test.false
+returns c = valued_all c.requires c.loop-i.invariant c.loop-i-test.false
 
 pub value_spec : {M : Type 1} → statement M
 value_spec =

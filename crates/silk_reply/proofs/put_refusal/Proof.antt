@@ -12,7 +12,7 @@ count-requires : tie.Need-count-requires
 count-requires c κs = search rules
 
 returns : tie.Need-returns
-returns c = refusal_put _ (omega arith) c.before.print_refusal.ensures.0 c.before.print_refusal.ensures.1 c.count.ensures
+returns c = refusal_put _ (omega arith) c.print_refusal.ensures.0 c.print_refusal.ensures.1 c.count.ensures
 
 pub put_refusal_spec : {M : Type 1} → statement M
 put_refusal_spec = tie.close (tie.spec

@@ -25,15 +25,13 @@ put-refusal-requires c κs = search rules
 
 returns : tie.Need-returns-in-Processed
 returns c =
-    let told = c.before.before.before.before.before.before.before.before in
-    let ran = told.before.before.run_sheet.ensures in
-    let printing = c.before.print_result.ensures in
-    sheet_put _ _ _ ran told.facts-1.given.1 (omega arith) printing.0 printing.1 c.count.ensures
+    let ran = c.run_sheet.ensures in
+    let printing = c.print_result.ensures in
+    sheet_put _ _ _ ran c.in-Processed.is (omega arith) printing.0 printing.1 c.count.ensures
 
 returns-2 : tie.Need-returns-in-Refused
 returns-2 c =
-    let told = c.before.before.before in
-    rw (sheet_refused _ _ _ told.before.before.run_sheet.ensures told.n-1.given.1) c.put_refusal.ensures
+    rw (sheet_refused _ _ _ c.run_sheet.ensures c.in-Refused.is) c.put_refusal.ensures
 
 pub put_sheet_spec : {M : Type 1} → statement M
 put_sheet_spec =

@@ -31,15 +31,13 @@ put-refusal-requires c κs = search rules
 returns : tie.Need-returns-in-Sheet
 unfolding no_colours no_cells decimal of_bits round
 returns c =
-    let told = c.before.before.before.before.before in
-    let read = told.before.before.before.before.read.ensures in
-    rw (read_sheet _ read.0 told.h-1.given.1 read.1.0 read.1.1) (c.put_sheet.ensures.size, c.put_sheet.ensures.list)
+    let read = c.read.ensures in
+    rw (read_sheet _ read.0 c.in-Sheet.is read.1.0 read.1.1) (c.put_sheet.ensures.size, c.put_sheet.ensures.list)
 
 returns-2 : tie.Need-returns-in-Refused
 unfolding no_colours no_cells decimal of_bits round
 returns-2 c =
-    let told = c.before.before.before in
-    rw (read_refused _ told.before.before.before.before.read.ensures.0 told.n-1.given.1) (c.put_refusal.ensures.size, c.put_refusal.ensures.list)
+    rw (read_refused _ c.read.ensures.0 c.in-Refused.is) (c.put_refusal.ensures.size, c.put_refusal.ensures.list)
 
 pub respond_spec : {M : Type 1} → statement M
 respond_spec =

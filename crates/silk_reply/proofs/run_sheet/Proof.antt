@@ -15,9 +15,8 @@ run-requires c κs = search rules
 
 returns : tie.Need-returns
 returns c =
-    let after = c.before in
-    let args = after.before.before.before.before.before.before.args in
-    called args.h args.palette.now args.cells.now (search rules) (length-replicate {A = ℕ} _ 0) (omega arith) after.run.ensures
+    let args = c.args in
+    called args.h args.palette.now args.cells.now (search rules) (length-replicate {A = ℕ} _ 0) (omega arith) c.run.ensures
 
 pub run_sheet_spec : {M : Type 1} → statement M
 run_sheet_spec = tie.close (tie.spec

@@ -8,7 +8,7 @@ use Rattle.silk_reply.proofs.serve.Statement.{statement}
 use Rattle.silk_reply.proofs.serve.Tie as tie
 
 returns : tie.Need-returns
-returns c = c.before.before.before.before.respond-count.ensures
+returns c = c.respond-count.ensures
 
 read-full-requires : tie.Need-read_full-n-requires
 read-full-requires c κs = search rules
@@ -21,7 +21,7 @@ respond-requires c κs = search rules
 
 slice-aggregate-write-all : tie.Need-slice_bounds-write_all-end
 slice-aggregate-write-all c =
-    let put = c.before.before.before.respond-count.ensures in
+    let put = c.respond-count.ensures in
     sym (length-take-le _ _ (omega (arith, put.0, within _ _ put.1)))
 
 write-all-requires : tie.Need-write_all-written-requires

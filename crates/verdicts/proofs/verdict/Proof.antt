@@ -156,7 +156,7 @@ same-length-2 c = search rules
 returns-3 : tie.Need-returns-then-not-large_around
 returns-3 c =
     let u = waiting c.before.before in
-    judged_silent c.args.by c.args.palette.now c.requires.0.0 c.requires.1.1.0 c.requires.0.1 (span c.before.before.before.before.before.before) c.region_span-span.ensures u.free u.little c.requires.1.0.0 u.fresh (c.large_around.ensures (not-true c.large_around.result c.if-not-large_around.true))
+    judged_silent c.args.by c.args.palette.now c.requires.0.0 c.requires.1.1.0 c.requires.0.1 (span c.before.before.before.before.before.before) c.region_span-span.ensures u.free u.little c.requires.1.0.0 u.fresh (c.large_around.ensures c.if-not-large_around.true)
 
 -- the first place's paint, as it is read
 abbrev own : tie.After-region_span-span → ℕ

@@ -85,7 +85,7 @@ loop-less c = omega (arith, c.loop-x-test.true)
 stored_is : (c : tie.After-repainted invariant-loop decreases-loop) → let s = c.args in
     to_z w32 (of_z w32 c.repainted.result) ≡ repaint (plane (s.h * s.w) 0 s.work.now (place c.before.before.before)) (get_or c.loop-x.cells (s.start + s.y * s.stride + c.loop-x.x) (pos 0))
 stored_is c =
-    to_z-of_z (record { sfits = c.repainted.type_inv }) ∙ rw (to_z-of_z (record { sfits = c.repainted-arg-1.given }), paint_at_lem c.before.before.before) at c.repainted.ensures
+    to_z-of_z {w = w32} (record { sfits = c.repainted.type_inv }) ∙ rw (to_z-of_z {w = w32} (record { sfits = c.repainted-arg-1.given }), paint_at_lem c.before.before.before) at c.repainted.ensures
 
 loop-again : tie.Need-loop-x-preserved invariant-loop decreases-loop
 loop-again c =

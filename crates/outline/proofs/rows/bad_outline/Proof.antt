@@ -11,7 +11,7 @@ asked-requires c κs = search rules
 
 returns : tie.Need-returns-then-not-asked
 unfolding bad_outline
-returns c = rw (sym c.asked.ensures ∙ not-true c.asked.result c.if-not-asked.true)
+returns c = rw (sym c.asked.ensures ∙ c.if-not-asked.true)
 
 bad-darkening-requires : tie.Need-bad_darkening-requires
 bad-darkening-requires c κs = search rules
@@ -19,7 +19,7 @@ bad-darkening-requires c κs = search rules
 returns-2 : tie.Need-returns
 unfolding bad_outline
 returns-2 c =
-    rw (sym c.asked.ensures ∙ not-false c.asked.result c.if-not-asked.false) c.bad_darkening.ensures
+    rw (sym c.asked.ensures ∙ c.if-not-asked.false) c.bad_darkening.ensures
 
 pub bad_outline_spec : {M : Type 1} → statement M
 bad_outline_spec = tie.close (tie.spec

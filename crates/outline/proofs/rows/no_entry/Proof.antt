@@ -14,7 +14,7 @@ on c = canvas c.args.padding (sheet_of c.args.cells.now c.args.h c.args.w)
 needed : (c : tie.Else-not-needs_entry) → no_entry_lem c.args.how c.args.k (on c) ≡ has_ring (on c)
 needed c =
     one_needed c.args.how c.args.k (on c) c.if-k-ne0.false
-    (sym c.needs_entry.ensures ∙ not-false c.needs_entry.result c.if-not-needs_entry.false)
+    (sym c.needs_entry.ensures ∙ c.if-not-needs_entry.false)
 
 returns : tie.Need-returns-then-k-ne0
 returns c =
@@ -28,7 +28,7 @@ returns-2 : tie.Need-returns-then-not-needs_entry
 returns-2 c =
     let s = c.args in
     sym (none_needed s.how s.k (canvas s.padding (sheet_of s.cells.now s.h s.w)) c.if-k-ne0.false
-    (sym c.needs_entry.ensures ∙ not-true c.needs_entry.result c.if-not-needs_entry.true))
+    (sym c.needs_entry.ensures ∙ c.if-not-needs_entry.true))
 
 returns-3 : tie.Need-returns-then-padding
 returns-3 c =

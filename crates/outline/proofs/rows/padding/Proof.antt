@@ -14,11 +14,11 @@ present-requires : tie.Need-present-requires
 present-requires c κs = search rules
 
 returns : tie.Need-returns-then-not-present
-returns c = rw (sym c.present.ensures ∙ not-true c.present.result c.if-not-present.true)
+returns c = rw (sym c.present.ensures ∙ c.if-not-present.true)
 
 -- the sheet is there
 is_there : (c : tie.Else-not-present) → let s = c.args in present s.h s.w (length s.cells.now) ≡ true
-is_there c = sym c.present.ensures ∙ not-false c.present.result c.if-not-present.false
+is_there c = sym c.present.ensures ∙ c.if-not-present.false
 
 touches-edge-requires : tie.Need-touches_edge-requires
 touches-edge-requires c κs = present-sheet _ _ _ (is_there c)

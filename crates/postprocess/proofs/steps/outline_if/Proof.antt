@@ -1,29 +1,22 @@
 -- `postprocess::steps::outline_if` meets its contract, with an outline and without. Assumes nothing.
 use mathlib.Core.Path.{sym, ◌∙◌}
 use borrow.Author.Rules.{rules}
-use borrow.Author.Tests.{not-true, not-false}
+use borrow.Author.Tests.{not_true, not_false}
 use Rattle.rules.specs.Palette.{palette_of}
 use Rattle.outline.proofs.Refusing.{room_plain}
 use Rattle.postprocess.proofs.Switched.{unlined, lines}
 use Rattle.postprocess.proofs.steps.outline_if.Statement.{statement}
 use Rattle.postprocess.proofs.steps.outline_if.Tie as tie
 
-abbrev start : tie.After-asked → tie.Start
-start c = c.before.before.before
-
 returns : tie.Need-returns-then-not-asked
 returns c =
-    let q = c.before.before in
-    let s = start q in
-    let a = s.args in
-    unlined a.how (palette_of a.palette-1.now a.k) a.cells-1.now a.size.h a.size.w (room_plain _ s.requires.0).0 (sym q.asked.ensures ∙ not-true _ c.before.if-not-asked.true) c.plain.ensures
+    let a = c.args in
+    unlined a.how (palette_of a.palette.now a.k) a.cells.now a.size.h a.size.w (room_plain _ c.requires.0).0 (sym c.asked.ensures ∙ not_true _ c.if-not-asked.true) c.plain.ensures
 
 returns-2 : tie.Need-returns
 returns-2 c =
-    let d = c.before.before.before.before.before in
-    let e = d.before.before.before.before in
-    let a = (start e.before).args in
-    lines a.how (palette_of a.palette-1.now a.k) a.cells-1.now a.size.h a.size.w (sym e.before.asked.ensures ∙ not-false _ e.if-not-asked.false) d.outline_sheet.ensures
+    let a = c.args in
+    lines a.how (palette_of a.palette.now a.k) a.cells.now a.size.h a.size.w (sym c.asked.ensures ∙ not_false _ c.if-not-asked.false) c.outline_sheet.ensures
 
 asked-requires : tie.Need-asked-requires
 asked-requires c κs = search rules

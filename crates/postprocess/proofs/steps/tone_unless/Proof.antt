@@ -14,12 +14,11 @@ same_length c = search rules
 
 returns : tie.Need-returns-then-not-kept
 returns c =
-    let t = c.before.before in
-    let s = t.before.before.before.before.args in
-    t.saturate.ensures ∙ tones_new s.kept s.config (palette_of s.palette-1.now s.k) t.before.before.if-not-kept.true
+    let s = c.args in
+    c.saturate.ensures ∙ tones_new s.kept s.config (palette_of s.palette.now s.k) c.if-not-kept.true
 
 returns-2 : tie.Need-returns-else-not-kept
-returns-2 c = let s = c.before.before.args in tones_kept s.kept s.config (palette_of s.palette-1.now s.k) c.if-not-kept.false
+returns-2 c = let s = c.args in tones_kept s.kept s.config (palette_of s.palette.now s.k) c.if-not-kept.false
 
 pub tone_unless_spec : {M : Type 1} → statement M
 tone_unless_spec = tie.close (tie.spec

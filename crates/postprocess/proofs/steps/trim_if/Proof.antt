@@ -15,13 +15,11 @@ same-length-2 c = search rules
 
 returns : tie.Need-returns-then-config
 returns c =
-    let t = c.before.before.before in
-    let i = t.before.before.before in
-    let a = i.before.before.args in
-    trims a.cells-1.now a.h a.w a.config.fix_jaggies i.if-config.true t.trim_sheet.ensures
+    let a = c.args in
+    trims a.cells.now a.h a.w a.config.fix_jaggies c.if-config.true c.trim_sheet.ensures
 
 returns-2 : tie.Need-returns-else-config
-returns-2 c = let s = c.before.before in untrimmed s.args.cells.now s.args.h s.args.w s.args.config.fix_jaggies s.requires.2 c.if-config.false
+returns-2 c = untrimmed c.args.cells.now c.args.h c.args.w c.args.config.fix_jaggies c.requires.2 c.if-config.false
 
 pub trim_if_spec : {M : Type 1} → statement M
 trim_if_spec = tie.close (tie.spec

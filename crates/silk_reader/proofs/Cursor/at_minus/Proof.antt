@@ -8,7 +8,7 @@ shared-slice-read-result : tie.Need-bounds-text-at
 shared-slice-read-result c = omega arith
 
 returns : tie.Need-returns-then-at-text
-returns c = let a = c.before.before.args in minus-next a.text.now a.self.at
+returns c = let a = c.args in minus-next a.text.now a.self.at
 
 returns-2 : tie.Need-returns-else-at-text
 returns-2 c = minus_end _ _ c.if-at-text.false

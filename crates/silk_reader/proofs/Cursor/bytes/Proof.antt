@@ -19,7 +19,7 @@ loop-holds c = record { same = refl }
 
 returns : tie.Need-returns-then-at-text invariant-loop decreases-loop
 unfolding got_bytes
-returns c = matched_short c.before.before.loop-i.invariant c.before.loop-i-test.true c.if-at-text.true
+returns c = matched_short c.loop-i.invariant c.loop-i-test.true c.if-at-text.true
 
 shared-slice-read-if2 : tie.Need-bounds-text-at invariant-loop decreases-loop
 shared-slice-read-if2 c = omega arith
@@ -30,8 +30,7 @@ shared-slice-read-if2-2 c = omega arith
 returns-2 : tie.Need-returns-then-text-at invariant-loop decreases-loop
 unfolding got_bytes
 returns-2 c =
-    let turn = c.before.before.before.before in
-    matched_no turn.before.loop-i.invariant turn.loop-i-test.true (omega arith) c.if-text-at.true
+    matched_no c.loop-i.invariant c.loop-i-test.true (omega arith) c.if-text-at.true
 
 add_at : tie.Need-overflow_add-at invariant-loop decreases-loop
 add_at c = omega arith
@@ -44,12 +43,11 @@ loop-less c = omega arith
 
 loop-again : tie.Need-loop-i-preserved invariant-loop decreases-loop
 loop-again c =
-    let turn = c.before.before.before.before in
-    matched_more turn.before.loop-i.invariant turn.loop-i-test.true (omega arith) c.if-text-at.false
+    matched_more c.loop-i.invariant c.loop-i-test.true (omega arith) c.if-text-at.false
 
 returns-3 : tie.Need-returns invariant-loop decreases-loop
 unfolding got_bytes
-returns-3 c = matched_all c.before.loop-i.invariant c.loop-i-test.false
+returns-3 c = matched_all c.loop-i.invariant c.loop-i-test.false
 
 pub bytes_spec : {M : Type 1} → statement M
 bytes_spec =

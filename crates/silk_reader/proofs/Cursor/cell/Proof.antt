@@ -12,9 +12,8 @@ at-minus-requires c κs = tt
 
 add-next : tie.Need-overflow_add-next
 add-next c =
-    let at-minus = c.before.before in
-    let a = at-minus.before.before.args in
-    omega (arith, minus-inside a.text.now a.self.at (sym at-minus.at_minus.ensures ∙ c.before.if-at_minus.true))
+    let a = c.args in
+    omega (arith, minus-inside a.text.now a.self.at (sym c.at_minus.ensures ∙ c.if-at_minus.true))
 
 negative-requires : tie.Need-negative-requires
 negative-requires c κs = tt
@@ -25,13 +24,12 @@ natural-requires c κs = tt
 returns : tie.Need-returns-then-at_minus
 unfolding cell
 returns c =
-    let at-minus = c.before.before.before in
-    let a = at-minus.before.before.args in
-    rw (sym at-minus.at_minus.ensures ∙ c.before.before.if-at_minus.true) (c.negative.ensures ∙ ap negative (sym (drop-drop 1 a.self.at a.text.now)))
+    let a = c.args in
+    rw (sym c.at_minus.ensures ∙ c.if-at_minus.true) (c.negative.ensures ∙ ap negative (sym (drop-drop 1 a.self.at a.text.now)))
 
 returns-2 : tie.Need-returns-else-at_minus
 unfolding cell
-returns-2 c = rw (sym c.before.before.at_minus.ensures ∙ c.before.if-at_minus.false) c.natural.ensures
+returns-2 c = rw (sym c.at_minus.ensures ∙ c.if-at_minus.false) c.natural.ensures
 
 pub cell_spec : {M : Type 1} → statement M
 cell_spec = tie.close (tie.spec

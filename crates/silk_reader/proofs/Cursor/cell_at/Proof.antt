@@ -12,7 +12,7 @@ cell-requires c κs = tt
 
 returns : tie.Need-returns-then-x-eq0
 unfolding cell_at
-returns c = rw (eq-eqb _ 0 c.before.if-x-eq0.true) c.cell.ensures
+returns c = rw (eq-eqb _ 0 c.if-x-eq0.true) c.cell.ensures
 
 bytes-requires : tie.Need-bytes-requires
 bytes-requires c κs = tt
@@ -26,8 +26,7 @@ enum_told c = search rules
 returns-2 : tie.Need-returns-in_default
 unfolding got_bytes got_cell cell_at ◌>>◌ chain codes
 returns-2 c =
-    let bytes = c.before.before in
-    rw (ne_eqb _ 0 bytes.before.before.if-x-eq0.false, known (got_bytes _) bytes.bytes.ensures c.enum_told-1.given.1)
+    rw (ne_eqb _ 0 c.if-x-eq0.false, known (got_bytes _) c.bytes.ensures c.in_default.is)
 
 cell-requires-2 : tie.Need-cell-requires-2
 cell-requires-2 c κs = tt
@@ -35,9 +34,7 @@ cell-requires-2 c κs = tt
 returns-3 : tie.Need-returns
 unfolding got_bytes cell_at ◌>>◌ chain codes
 returns-3 c =
-    let next = c.before.before in
-    let bytes = next.before.before in
-    rw (ne_eqb _ 0 bytes.before.before.if-x-eq0.false, known (got_bytes _) bytes.bytes.ensures next.next-1.given.1) c.cell-2.ensures
+    rw (ne_eqb _ 0 c.if-x-eq0.false, known (got_bytes _) c.bytes.ensures c.in-To.is) c.cell-2.ensures
 
 pub cell_at_spec : {M : Type 1} → statement M
 cell_at_spec =

@@ -11,7 +11,7 @@ line-end-requires c κs = tt
 
 returns : tie.Need-returns-then-end-text
 unfolding got_colour
-returns c = hex_short _ _ _ c.before.line_end-end.ensures c.if-end-text.true
+returns c = hex_short _ _ _ c.line_end-end.ensures c.if-end-text.true
 
 add-next : tie.Need-overflow_add-next
 add-next c = search rules
@@ -37,16 +37,12 @@ enum-known-n c = search rules
 returns-2 : tie.Need-returns-in-Colour
 unfolding got_colour hex_of
 returns-2 c =
-    let hex-to-rgb8 = c.before.before.before in
-    let e = hex-to-rgb8.before.before in
-    rw (hex_at _ _ _ e.before.line_end-end.ensures e.if-end-text.false, ← hex-to-rgb8.hex_to_rgb8.ensures, c.before.rgb-1.given.1)
+    rw (hex_at _ _ _ c.line_end-end.ensures c.if-end-text.false, ← c.hex_to_rgb8.ensures, c.in-Colour.is)
 
 returns-3 : tie.Need-returns-in-Refused
 unfolding got_colour hex_of
 returns-3 c =
-    let hex-to-rgb8 = c.before.before.before in
-    let e = hex-to-rgb8.before.before in
-    rw (hex_at _ _ _ e.before.line_end-end.ensures e.if-end-text.false, ← hex-to-rgb8.hex_to_rgb8.ensures, c.before.n-1.given.1)
+    rw (hex_at _ _ _ c.line_end-end.ensures c.if-end-text.false, ← c.hex_to_rgb8.ensures, c.in-Refused.is)
 
 pub hex_line_spec : {M : Type 1} → statement M
 hex_line_spec =

@@ -19,16 +19,16 @@ enum_told c = search rules
 
 returns : tie.Need-returns-in_default
 unfolding got_number got_cell natural ◌>>=◌ chain
-returns c = rw (known (got_number _) c.before.before.number.ensures c.enum_told-1.given.1)
+returns c = rw (known (got_number _) c.number.ensures c.in_default.is)
 
 signed-requires : tie.Need-signed-requires
 unfolding got_number
-signed-requires c κs = number_small _ (known (got_number _) c.before.before.before.number.ensures c.before.n-1.given.1)
+signed-requires c κs = number_small _ (known (got_number _) c.number.ensures c.in-Value.is)
 
 returns-2 : tie.Need-returns
 unfolding got_number got_cell natural ◌>>=◌ chain give
 returns-2 c =
-    let e = known (got_number _) c.before.before.before.before.number.ensures c.before.before.n-1.given.1 in
+    let e = known (got_number _) c.number.ensures c.in-Value.is in
     rw (e, back (pos_fits _ (number_small _ e)) c.signed.ensures)
 
 pub natural_spec : {M : Type 1} → statement M

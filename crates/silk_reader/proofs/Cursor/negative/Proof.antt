@@ -20,26 +20,23 @@ enum_told c = search rules
 
 returns : tie.Need-returns-in_default
 unfolding got_number got_cell negative ◌>>=◌ chain
-returns c = rw (known (got_number _) c.before.before.number.ensures c.enum_told-1.given.1)
+returns c = rw (known (got_number _) c.number.ensures c.in_default.is)
 
 returns-2 : tie.Need-returns-then-n-eq0
 unfolding got_number got_cell negative ◌>>=◌ chain minus
 returns-2 c =
-    let n = c.before.before in
-    rw (known (got_number _) n.before.before.number.ensures n.n-1.given.1, eq-eqb _ 0 c.if-n-eq0.true)
+    rw (known (got_number _) c.number.ensures c.in-Value.is, eq-eqb _ 0 c.if-n-eq0.true)
 
 negated-requires : tie.Need-negated-requires
 unfolding got_number
 negated-requires c κs =
-    let n = c.before.before in
-    number_small _ (known (got_number _) n.before.before.number.ensures n.n-1.given.1)
+    number_small _ (known (got_number _) c.number.ensures c.in-Value.is)
 
 returns-3 : tie.Need-returns
 unfolding got_number got_cell negative ◌>>=◌ chain minus
 returns-3 c =
-    let n = c.before.before.before in
-    let e = known (got_number _) n.before.before.number.ensures n.n-1.given.1 in
-    rw (e, ne_eqb _ 0 c.before.if-n-eq0.false, back (neg_fits _ (number_small _ e)) c.negated.ensures)
+    let e = known (got_number _) c.number.ensures c.in-Value.is in
+    rw (e, ne_eqb _ 0 c.if-n-eq0.false, back (neg_fits _ (number_small _ e)) c.negated.ensures)
 
 pub negative_spec : {M : Type 1} → statement M
 negative_spec = tie.close (tie.spec

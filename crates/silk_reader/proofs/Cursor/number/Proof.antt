@@ -1,22 +1,18 @@
 -- `Cursor::number` meets its contract. Assumes nothing.
 use mathlib.Core.Path.{sym, ◌∙◌}
-use borrow.Author.Tests.{not-true, not-false}
+use borrow.Author.Tests.{not_true, not_false}
 use native.Mathlib.Omega.{arith}
 use Rattle.silk_reader.specs.Answers.{got_number}
 use Rattle.silk_reader.proofs.Scanning.{digits_inside, digits_proper, number_none, number_no, number_yes}
 use Rattle.silk_reader.proofs.Cursor.number.Statement.{statement}
 use Rattle.silk_reader.proofs.Cursor.number.Tie as tie
 
--- where the digits end, seen from their test
-abbrev digits_end_lem : tie.After-proper → tie.After-digits_end-end
-digits_end_lem c = c.before.before.before
-
 digits-end-requires : tie.Need-digits_end-end-requires
 digits-end-requires c κs = tt
 
 returns : tie.Need-returns-then-end-at
 unfolding got_number
-returns c = number_none _ _ _ c.before.digits_end-end.ensures c.if-end-at.true
+returns c = number_none _ _ _ c.digits_end-end.ensures c.if-end-at.true
 
 sub-digits : tie.Need-slice_bounds-digits-count
 sub-digits c = omega arith
@@ -25,23 +21,22 @@ part-digits-start : tie.Need-slice_bounds-digits-start
 part-digits-start c = omega arith
 
 part-digits-end : tie.Need-slice_bounds-digits-end
-part-digits-end c = digits_inside _ _ _ c.before.digits_end-end.ensures c.if-end-at.false
+part-digits-end c = digits_inside _ _ _ c.digits_end-end.ensures c.if-end-at.false
 
 proper-requires : tie.Need-proper-requires
 proper-requires c κs = tt
 
 returns-2 : tie.Need-returns-then-not-proper
 unfolding got_number
-returns-2 c = number_no _ _ _ (digits_end_lem c.before).digits_end-end.ensures (sym c.before.proper.ensures ∙ not-true _ c.if-not-proper.true)
+returns-2 c = number_no _ _ _ c.digits_end-end.ensures (sym c.proper.ensures ∙ not_true _ c.if-not-proper.true)
 
 value-requires : tie.Need-value-requires
-value-requires c κs = digits_proper _ _ _ (digits_end_lem c.before).digits_end-end.ensures (sym c.before.proper.ensures ∙ not-false _ c.if-not-proper.false)
+value-requires c κs = digits_proper _ _ _ c.digits_end-end.ensures (sym c.proper.ensures ∙ not_false _ c.if-not-proper.false)
 
 returns-3 : tie.Need-returns
 unfolding got_number
 returns-3 c =
-    let proper = c.before.before in
-    rw c.value.ensures (number_yes _ _ _ (digits_end_lem proper).digits_end-end.ensures (sym proper.proper.ensures ∙ not-false _ c.before.if-not-proper.false))
+    rw c.value.ensures (number_yes _ _ _ c.digits_end-end.ensures (sym c.proper.ensures ∙ not_false _ c.if-not-proper.false))
 
 pub number_spec : {M : Type 1} → statement M
 number_spec =

@@ -9,10 +9,6 @@ use Rattle.silk_reader.proofs.Signs.{pos_fits, back}
 use Rattle.silk_reader.proofs.Cursor.options.Statement.{statement}
 use Rattle.silk_reader.proofs.Cursor.options.Tie as tie
 
--- where the first line was read, seen from the fifth: further back than `search` looks by itself
-abbrev first : tie.After-switch_line-3 → tie.In-Value-2
-first c = c.before.before.before.before.before.before.before.before.before.before.before.before.before.before.before.before.before.before
-
 pub options_spec : {M : Type 1} → statement M
 unfolding got_number got_switch got_options options ◌>>=◌ chain codes give
 options_spec =

@@ -15,7 +15,7 @@ enum-known-next c = search rules
 
 returns : tie.Need-returns-in-To
 unfolding got_bytes got_colour got_outline outline_value ◌>>◌ ◌>>=◌ ◌or◌ or_else chain codes give
-returns c = rw (known (got_bytes _) c.before.before.before.bytes.ensures c.before.next-1.given.1)
+returns c = rw (known (got_bytes _) c.bytes.ensures c.in-To.is)
 
 enum_told : tie.Need-enum_told-1
 enum_told c = search rules
@@ -29,9 +29,7 @@ enum-known-next-2 c = search rules
 returns-2 : tie.Need-returns-in-To-bytes
 unfolding got_bytes got_colour got_outline outline_value ◌>>◌ ◌>>=◌ ◌or◌ or_else chain codes give
 returns-2 c =
-    let bytes2 = c.before.before.before in
-    let none = bytes2.before.before in
-    rw (known (got_bytes _) none.before.before.bytes.ensures none.enum_told-1.given.1, known (got_bytes _) bytes2.bytes-2.ensures c.before.next-in-To-bytes-2-1.given.1)
+    rw (known (got_bytes _) c.bytes.ensures c.in_default.is, known (got_bytes _) c.bytes-2.ensures c.in-To-bytes.is)
 
 enum-told-2 : tie.Need-enum_told-in_default-bytes
 enum-told-2 c = search rules
@@ -48,18 +46,12 @@ enum-known-n c = search rules
 returns-3 : tie.Need-returns-in-Value
 unfolding got_bytes got_colour got_outline outline_value ◌>>◌ ◌>>=◌ ◌or◌ or_else chain codes give
 returns-3 c =
-    let hex-line = c.before.before.before in
-    let auto = hex-line.before in
-    let none = auto.before.before.before.before in
-    rw (known (got_bytes _) none.before.before.bytes.ensures none.enum_told-1.given.1, known (got_bytes _) auto.before.before.bytes-2.ensures auto.enum_told-in_default-bytes-1.given.1, known (got_colour _) hex-line.hex_line.ensures c.before.c-1.given.1)
+    rw (known (got_bytes _) c.bytes.ensures c.in_default.is, known (got_bytes _) c.bytes-2.ensures c.in_default-bytes.is, known (got_colour _) c.hex_line.ensures c.in-Value.is)
 
 returns-4 : tie.Need-returns-in-Refused
 unfolding got_bytes got_colour got_outline outline_value ◌>>◌ ◌>>=◌ ◌or◌ or_else chain codes give
 returns-4 c =
-    let hex-line = c.before.before.before in
-    let auto = hex-line.before in
-    let none = auto.before.before.before.before in
-    rw (known (got_bytes _) none.before.before.bytes.ensures none.enum_told-1.given.1, known (got_bytes _) auto.before.before.bytes-2.ensures auto.enum_told-in_default-bytes-1.given.1, known (got_colour _) hex-line.hex_line.ensures c.before.n-1.given.1)
+    rw (known (got_bytes _) c.bytes.ensures c.in_default.is, known (got_bytes _) c.bytes-2.ensures c.in_default-bytes.is, known (got_colour _) c.hex_line.ensures c.in-Refused.is)
 
 pub outline_value_spec : {M : Type 1} → statement M
 outline_value_spec =

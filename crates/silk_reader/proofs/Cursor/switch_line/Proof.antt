@@ -20,23 +20,23 @@ enum_told c = search rules
 
 returns : tie.Need-returns-in_default
 unfolding got_switch got_number switch_line ◌>>=◌ chain
-returns c = rw (known (got_number _) c.before.before.number_line.ensures c.enum_told-1.given.1)
+returns c = rw (known (got_number _) c.number_line.ensures c.in_default.is)
 
 returns-2 : tie.Need-returns-in-0
 unfolding got_switch got_number switch_line ◌>>=◌ chain switch_of
-returns-2 c = rw (known (got_number _) c.before.before.before.before.number_line.ensures c.before.before.n-1.given.1, c.in-0.keys1)
+returns-2 c = rw (known (got_number _) c.number_line.ensures c.in-Value.is, c.in-0.is)
 
 returns-3 : tie.Need-returns-in-1
 unfolding got_switch got_number switch_line ◌>>=◌ chain switch_of
-returns-3 c = rw (known (got_number _) c.before.before.before.before.number_line.ensures c.before.before.n-1.given.1, c.in-0.keys2)
+returns-3 c = rw (known (got_number _) c.number_line.ensures c.in-Value.is, c.in-1.is)
 
 returns-4 : tie.Need-returns-in_default-n
 unfolding got_switch got_number switch_line ◌>>=◌ chain switch_of
 returns-4 c =
-    let n = c.before.before.n-1.given.0.0 in
-    let zero : n ≡ 0 → ⊥ = c.in-0.rest.0.1 in
-    let one : n ≡ 1 → ⊥ = c.in-0.rest.1 in
-    rw (known (got_number _) c.before.before.before.before.number_line.ensures c.before.before.n-1.given.1, lt-leb n 1 (omega arith))
+    let n = c.in-Value.n in
+    let zero : n ≡ 0 → ⊥ = c.in_default-n.in_default-n-own.rest.0.1 in
+    let one : n ≡ 1 → ⊥ = c.in_default-n.in_default-n-own.rest.1 in
+    rw (known (got_number _) c.number_line.ensures c.in-Value.is, lt-leb n 1 (omega arith))
 
 pub switch_line_spec : {M : Type 1} → statement M
 switch_line_spec = tie.close (tie.spec

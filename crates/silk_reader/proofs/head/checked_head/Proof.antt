@@ -13,25 +13,20 @@ returns c text = rw (lt-ltb 40 _ c.if-h-gt40.true)
 returns-2 : tie.Need-returns-then-h-gt40-2
 unfolding got_head checked_head refusal unless
 returns-2 c text =
-    let other1 = c.before.before in
-    let h = other1.before.before.args.h in
-    rw (le-ltb 40 h.height other1.if-h-gt40.false, lt-ltb 40 h.width c.if-h-gt40-2.true)
+    let h = c.args.h in
+    rw (le-ltb 40 h.height c.if-h-gt40.false, lt-ltb 40 h.width c.if-h-gt40-2.true)
 
 returns-3 : tie.Need-returns-then-h-gt256
 unfolding got_head checked_head refusal unless
 returns-3 c text =
-    let other2 = c.before.before in
-    let other1 = other2.before.before in
-    let h = other1.before.before.args.h in
-    rw (le-ltb 40 h.height other1.if-h-gt40.false, le-ltb 40 h.width other2.if-h-gt40-2.false, lt-ltb 256 h.colours c.if-h-gt256.true)
+    let h = c.args.h in
+    rw (le-ltb 40 h.height c.if-h-gt40.false, le-ltb 40 h.width c.if-h-gt40-2.false, lt-ltb 256 h.colours c.if-h-gt256.true)
 
 returns-4 : tie.Need-returns
 unfolding got_head checked_head refusal unless
 returns-4 c text =
-    let other2 = c.before.before in
-    let other1 = other2.before.before in
-    let h = other1.before.before.args.h in
-    rw (le-ltb 40 h.height other1.if-h-gt40.false, le-ltb 40 h.width other2.if-h-gt40-2.false, le-ltb 256 h.colours c.if-h-gt256.false)
+    let h = c.args.h in
+    rw (le-ltb 40 h.height c.if-h-gt40.false, le-ltb 40 h.width c.if-h-gt40-2.false, le-ltb 256 h.colours c.if-h-gt256.false)
 
 pub checked_head_spec : {M : Type 1} → statement M
 checked_head_spec = tie.close (tie.spec

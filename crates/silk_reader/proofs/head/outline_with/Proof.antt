@@ -17,15 +17,15 @@ enum-known-kind c = search rules
 
 returns : tie.Need-returns-in-Nothing
 unfolding outline_with
-returns c = rw c.enum_told-1.given.1
+returns c = rw c.in-Nothing.is
 
 returns-2 : tie.Need-returns-in-Auto
 unfolding outline_with
-returns-2 c = rw (c.before.enum_told-in-Auto-1.given.1, c.hundredths.ensures)
+returns-2 c = rw (c.in-Auto.is, c.hundredths.ensures)
 
 returns-3 : tie.Need-returns-in-Explicit
 unfolding outline_with
-returns-3 c = rw c.before.kind-1.given.1
+returns-3 c = rw c.in-Explicit.is
 
 pub outline_with_spec : {M : Type 1} → statement M
 outline_with_spec =

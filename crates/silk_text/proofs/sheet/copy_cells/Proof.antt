@@ -26,7 +26,7 @@ mul-c-2 : tie.Need-offset_bounds-to-place invariant-loop decreases-loop
 mul-c-2 c = omega arith
 
 slice-set-from-c : tie.Need-bounds-to-place invariant-loop decreases-loop
-slice-set-from-c c = omega (arith, c.before.before.loop-place.invariant.kept)
+slice-set-from-c c = omega (arith, c.loop-place.invariant.kept)
 
 add-place : tie.Need-overflow_add-place invariant-loop decreases-loop
 add-place c = omega arith
@@ -35,13 +35,13 @@ loop-less : tie.Need-loop-place-smaller invariant-loop decreases-loop
 loop-less c = omega arith
 
 loop-again : tie.Need-loop-place-preserved invariant-loop decreases-loop
-loop-again c = copied_more c.before.before.loop-place.invariant (pos 0) c.before.loop-place-test.true (omega arith) (omega arith) (omega arith) (to_z-of_z (record { sfits = c.c-1.given }))
+loop-again c = copied_more c.loop-place.invariant (pos 0) c.loop-place-test.true (omega arith) (omega arith) (omega arith) (to_z-of_z (record { sfits = c.c-1.given }))
 
 same_length : tie.Need-shape_of-to invariant-loop decreases-loop
-same_length c = c.before.loop-place.invariant.kept
+same_length c = c.loop-place.invariant.kept
 
 returns : tie.Need-returns invariant-loop decreases-loop
-returns c = copied_all c.before.loop-place.invariant c.loop-place-test.false
+returns c = copied_all c.loop-place.invariant c.loop-place-test.false
 
 pub copy_cells_spec : {M : Type 1} → statement M
 copy_cells_spec =

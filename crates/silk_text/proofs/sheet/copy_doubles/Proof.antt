@@ -26,7 +26,7 @@ mul-to-2 : tie.Need-offset_bounds-to-i invariant-loop decreases-loop
 mul-to-2 c = omega arith
 
 slice-write-to : tie.Need-bounds-to-i invariant-loop decreases-loop
-slice-write-to c = omega (arith, c.before.before.loop-i.invariant.kept)
+slice-write-to c = omega (arith, c.loop-i.invariant.kept)
 
 add-i : tie.Need-overflow_add-i invariant-loop decreases-loop
 add-i c = omega arith
@@ -35,13 +35,13 @@ loop-less : tie.Need-loop-i-smaller invariant-loop decreases-loop
 loop-less c = omega arith
 
 loop-again : tie.Need-loop-i-preserved invariant-loop decreases-loop
-loop-again c = copied_more c.before.before.loop-i.invariant nan c.before.loop-i-test.true (omega arith) (omega arith) (omega arith) refl
+loop-again c = copied_more c.loop-i.invariant nan c.loop-i-test.true (omega arith) (omega arith) (omega arith) refl
 
 same_length : tie.Need-shape_of-to invariant-loop decreases-loop
-same_length c = c.before.loop-i.invariant.kept
+same_length c = c.loop-i.invariant.kept
 
 returns : tie.Need-returns invariant-loop decreases-loop
-returns c = copied_all c.before.loop-i.invariant c.loop-i-test.false
+returns c = copied_all c.loop-i.invariant c.loop-i-test.false
 
 pub copy_doubles_spec : {M : Type 1} → statement M
 copy_doubles_spec =

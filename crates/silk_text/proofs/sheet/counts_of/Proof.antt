@@ -8,22 +8,22 @@ use Rattle.silk_text.proofs.sheet.counts_of.Tie as tie
 
 returns : tie.Need-returns-in-Sheet
 unfolding doubles_read cells_read
-returns c = rw c.before.before.before.answer-1.given.1 (refl, refl)
+returns c = rw c.in-Sheet.is (refl, refl)
 
 returns-2 : tie.Need-returns-in-Refused
 unfolding doubles_read cells_read
-returns-2 c = rw c.enum_told-1.given.1 (refl, refl)
+returns-2 c = rw c.in-Refused.is (refl, refl)
 
 enum-known-answer : tie.Need-enum_known-answer
 enum-known-answer c = search rules
 
 mul-doubles : tie.Need-overflow_mul-doubles
 unfolding doubles_read
-mul-doubles c = let told = c.before.before in omega (arith, rw told.answer-1.given.1 at told.before.before.requires.0)
+mul-doubles c = omega (arith, rw c.in-Sheet.is at c.requires.0)
 
 mul-cells : tie.Need-overflow_mul-cells
 unfolding cells_read
-mul-cells c = let told = c.before.before.before in omega (arith, rw told.answer-1.given.1 at told.before.before.requires.1)
+mul-cells c = omega (arith, rw c.in-Sheet.is at c.requires.1)
 
 enum_told : tie.Need-enum_told-1
 enum_told c = search rules

@@ -7,7 +7,7 @@ use Rattle.silk_text.proofs.sheet.limited.Statement.{statement}
 use Rattle.silk_text.proofs.sheet.limited.Tie as tie
 
 slice-aggregate-result : tie.Need-slice_bounds-result-end
-slice-aggregate-result c = sym (length-take-le 65536 c.before.before.args.text.now (omega arith))
+slice-aggregate-result c = sym (length-take-le 65536 c.args.text.now (omega arith))
 
 returns : tie.Need-returns-then-text-gt65536
 unfolding max_bytes

@@ -45,7 +45,7 @@ same_length c = search rules
 returns : tie.Need-returns
 unfolding doubles
 returns c =
-    let a = c.before.before.before.args in
+    let a = c.args in
     rw (c.rgb8_to_lab_by-lab.ensures, add-one (3 * a.i), add-two (3 * a.i)) (laid_sets (3 * a.i) (doubles a.c) a.palette.now (omega arith))
 
 pub put_colour_spec : {M : Type 1} → statement M

@@ -6,34 +6,24 @@ use Rattle.silk_text.proofs.Keeping.{narrow, short, Handed, handed, handed-left}
 use Rattle.silk_text.proofs.sheet.read.Statement.{statement}
 use Rattle.silk_text.proofs.sheet.read.Tie as tie
 
-abbrev start : tie.After-read_text-answer → tie.Start
-start c = c.before.before.before.before.before.before.before
-
 -- what is read goes to the lent lists
 handing : (c : tie.After-read_text-answer) →
-    Handed (read_into (start c).args.text.now (start c).args.palette.now (start c).args.cells.now) (start c).args.palette.now (start c).args.cells.now
+    Handed (read_into c.args.text.now c.args.palette.now c.args.cells.now) c.args.palette.now c.args.cells.now
     c.read_text-answer.result c.read_text-answer.new.palette c.read_text-answer.new.cells
 handing c =
-    let sized = c.before.before.before in
-    handed _ _ _ _ _ sized.before.if-palette-lt768.false sized.if-cells-lt1600.false c.read_text-answer.ensures
-
--- where the doubles are copied, seen from where the cells are to be
-abbrev copied : tie.After-copy_cells-arg-1 → tie.After-copy_doubles
-copied c = c.before.before.before.before
+    handed _ _ _ _ _ c.if-palette-lt768.false c.if-cells-lt1600.false c.read_text-answer.ensures
 
 returns : tie.Need-returns-then-palette-lt768
-returns c = let l = narrow _ _ _ c.if-palette-lt768.true in (l.answers, (l.colours-1, l.sheet-1))
+returns c = let l = narrow _ _ _ c.if-palette-lt768.true in (l.answers, (l.colours, l.sheet))
 
 returns-2 : tie.Need-returns-then-cells-lt1600
-returns-2 c = let l = short _ _ _ c.before.if-palette-lt768.false c.if-cells-lt1600.true in (l.answers, (l.colours-1, l.sheet-1))
+returns-2 c = let l = short _ _ _ c.if-palette-lt768.false c.if-cells-lt1600.true in (l.answers, (l.colours, l.sheet))
 
 returns-3 : tie.Need-returns
 returns-3 c =
-    let doubles = copied c.before.before in
-    let counts = doubles.before.before.before in
-    let told = counts.counts_of-counts.ensures in
-    let l = handed-left (handing counts.before.before.before) told.0 told.1 doubles.copy_doubles.ensures c.before.copy_cells.ensures in
-    (l.answers, (l.colours-1, l.sheet-1))
+    let told = c.counts_of-counts.ensures in
+    let l = handed-left (handing c.before.before.before.before.before.before.before.before.before.before.before.before) told.0 told.1 c.copy_doubles.ensures c.copy_cells.ensures in
+    (l.answers, (l.colours, l.sheet))
 
 slice-aggregate-read-text : tie.Need-slice_bounds-read_text-end
 slice-aggregate-read-text c = search rules
@@ -52,18 +42,16 @@ slice-aggregate-copy-doubles c = search rules
 
 copy-doubles-requires : tie.Need-copy_doubles-requires
 copy-doubles-requires c κs =
-    let counts = c.before.before in
-    let h = handing counts.before.before.before in
-    (omega (arith, counts.counts_of-counts.ensures.0, h.few), omega (arith, counts.counts_of-counts.ensures.0, h.few))
+    let h = handing c.before.before.before.before.before in
+    (omega (arith, c.counts_of-counts.ensures.0, h.few), omega (arith, c.counts_of-counts.ensures.0, h.few))
 
 slice-aggregate-copy-cells : tie.Need-slice_bounds-copy_cells-end
 slice-aggregate-copy-cells c = search rules
 
 copy-cells-requires : tie.Need-copy_cells-requires
 copy-cells-requires c κs =
-    let counts = (copied c).before.before.before in
-    let h = handing counts.before.before.before in
-    (omega (arith, counts.counts_of-counts.ensures.1, h.held), omega (arith, counts.counts_of-counts.ensures.1, h.held))
+    let h = handing c.before.before.before.before.before.before.before.before.before.before in
+    (omega (arith, c.counts_of-counts.ensures.1, h.held), omega (arith, c.counts_of-counts.ensures.1, h.held))
 
 same_length : tie.Need-shape_of-palette
 same_length c = search rules

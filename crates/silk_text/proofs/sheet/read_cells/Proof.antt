@@ -37,13 +37,12 @@ enum_told : tie.Need-enum_told-1 invariant-loop decreases-loop
 enum_told c = search rules
 
 same_length : tie.Need-shape_of-cells-in_default invariant-loop decreases-loop
-same_length c = c.before.before.before.before.loop-x.invariant.kept
+same_length c = c.loop-x.invariant.kept
 
 returns : tie.Need-returns-in_default invariant-loop decreases-loop
 unfolding onto got_list_bytes got_cell ◌>>=◌ chain
 returns c =
-    let at = c.before.before.before in
-    rw (going_refused 1 _ _ at.before.loop-x.invariant at.loop-x-test.true (known (got_cell _) c.before.before.cell_at.ensures c.enum_told-1.given.1))
+    rw (going_refused 1 _ _ c.loop-x.invariant c.loop-x-test.true (known (got_cell _) c.cell_at.ensures c.in_default.is))
 
 add-place : tie.Need-overflow_add-place invariant-loop decreases-loop
 add-place c = omega arith
@@ -52,7 +51,7 @@ mul-c : tie.Need-offset_bounds-cells-place invariant-loop decreases-loop
 mul-c c = omega arith
 
 slice-set-from-c : tie.Need-bounds-cells-place invariant-loop decreases-loop
-slice-set-from-c c = omega (arith, c.before.before.before.before.before.loop-x.invariant.kept)
+slice-set-from-c c = omega (arith, c.loop-x.invariant.kept)
 
 add-x : tie.Need-overflow_add-x invariant-loop decreases-loop
 add-x c = omega arith
@@ -63,19 +62,17 @@ loop-less c = omega arith
 loop-again : tie.Need-loop-x-preserved invariant-loop decreases-loop
 unfolding got_cell
 loop-again c =
-    let cell-at = c.before.before.before in
-    let at = cell-at.before in
-    let g = at.before.loop-x.invariant in
-    let fits : SFits w32 c.before.c-1.given.0.0 = record { sfits = c.known_told-1.given.0.1 } in
-    going_more 1 _ _ g at.loop-x-test.true (known (got_cell _) cell-at.cell_at.ensures c.before.c-1.given.1) refl (omega arith) {place = at.before.before.before.args.at + at.before.loop-x.x} (rw (to_z-of_z fits) (laid_one _ _ _ (omega (arith, g.kept)))) (omega arith)
+    let g = c.loop-x.invariant in
+    let fits : SFits w32 c.in-Value.c = record { sfits = c.in-Value.known_told-1-own.given.0.1 } in
+    going_more 1 _ _ g c.loop-x-test.true (known (got_cell _) c.cell_at.ensures c.in-Value.is) refl (omega arith) {place = c.args.at + c.loop-x.x} (rw (to_z-of_z fits) (laid_one _ _ _ (omega (arith, g.kept)))) (omega arith)
 
 same-length-2 : tie.Need-shape_of-cells invariant-loop decreases-loop
-same-length-2 c = c.before.loop-x.invariant.kept
+same-length-2 c = c.loop-x.invariant.kept
 
 returns-2 : tie.Need-returns invariant-loop decreases-loop
 unfolding onto got_list_bytes got_cell ◌>>=◌ chain give
 returns-2 c =
-    let g = c.before.loop-x.invariant in
+    let g = c.loop-x.invariant in
     rw (going_all 1 _ _ g c.loop-x-test.false, ← singles g.read, ← g.list)
 
 pub read_cells_spec : {M : Type 1} → statement M

@@ -38,21 +38,18 @@ slice-aggregate-put-colour c = search rules
 
 put-colour-requires : tie.Need-put_colour-requires invariant-loop decreases-loop
 put-colour-requires c κs =
-    let at = c.before.before.before.before.before.before.before in
-    (at.before.decode_table-table.ensures, omega (arith, at.loop-i.invariant.kept))
+    (c.decode_table-table.ensures, omega (arith, c.loop-i.invariant.kept))
 
 enum-known-n : tie.Need-enum_known-n invariant-loop decreases-loop
 enum-known-n c = search rules
 
 same_length : tie.Need-shape_of-palette-in-Refused invariant-loop decreases-loop
-same_length c = c.before.before.before.before.before.loop-i.invariant.kept
+same_length c = c.loop-i.invariant.kept
 
 returns : tie.Need-returns-in-Refused invariant-loop decreases-loop
 unfolding colour_lines onto got_list got_colour ◌>>=◌ chain
 returns c =
-    let colour-line = c.before.before.before in
-    let at = colour-line.before in
-    rw (going_refused 3 _ 0 at.before.loop-i.invariant at.loop-i-test.true (known (got_colour _) colour-line.colour_line.ensures c.before.n-1.given.1))
+    rw (going_refused 3 _ 0 c.loop-i.invariant c.loop-i-test.true (known (got_colour _) c.colour_line.ensures c.in-Refused.is))
 
 add-i : tie.Need-overflow_add-i invariant-loop decreases-loop
 add-i c = omega arith
@@ -63,19 +60,15 @@ loop-less c = omega arith
 loop-again : tie.Need-loop-i-preserved invariant-loop decreases-loop
 unfolding got_colour doubles
 loop-again c =
-    let colour = c.before.before in
-    let told = colour.before.before.before.before in
-    let line = told.before.before in
-    let at = line.before in
-    going_more 3 _ 0 at.before.loop-i.invariant at.loop-i-test.true (known (got_colour _) line.colour_line.ensures told.c-1.given.1) refl (omega arith) colour.put_colour.ensures (omega arith)
+    going_more 3 _ 0 c.loop-i.invariant c.loop-i-test.true (known (got_colour _) c.colour_line.ensures c.in-Value.is) refl (omega arith) c.put_colour.ensures (omega arith)
 
 same-length-2 : tie.Need-shape_of-palette invariant-loop decreases-loop
-same-length-2 c = c.before.loop-i.invariant.kept
+same-length-2 c = c.loop-i.invariant.kept
 
 returns-2 : tie.Need-returns invariant-loop decreases-loop
 unfolding colour_lines onto got_list got_colour ◌>>=◌ chain give
 returns-2 c =
-    let g = c.before.loop-i.invariant in
+    let g = c.loop-i.invariant in
     rw (going_all 3 _ 0 g c.loop-i-test.false, ← g.list)
 
 pub read_colours_spec : {M : Type 1} → statement M

@@ -20,8 +20,7 @@ enum-known-h c = search rules
 read-lists-requires : tie.Need-read_lists-requires
 unfolding got_head
 read-lists-requires c κs =
-    let at-h = c.before.before.before in
-    let b = head-is _ (known (got_head _) at-h.before.before.head.ensures at-h.h-1.given.1) in
+    let b = head-is _ (known (got_head _) c.head.ensures c.in-Value.is) in
     (omega (arith, b.entries), omega (arith, area b))
 
 enum-known-n : tie.Need-enum_known-n
@@ -36,13 +35,11 @@ same-length-2 c = search rules
 returns : tie.Need-returns-in-Value
 unfolding got_head file ◌>>=◌ chain
 returns c =
-    let lists = c.before.before.before in
-    let h = lists.before.before.before in
-    rw (known (got_head _) h.before.before.before.head.ensures h.before.h-1.given.1) lists.read_lists.ensures
+    rw (known (got_head _) c.head.ensures c.in-Value.is) c.read_lists.ensures
 
 returns-2 : tie.Need-returns-in-Refused
 unfolding got_head got_file file ◌>>=◌ chain
-returns-2 c = sym (lent_no _ _ (rw (known (got_head _) c.before.before.before.head.ensures c.before.n-1.given.1)))
+returns-2 c = sym (lent_no _ _ (rw (known (got_head _) c.head.ensures c.in-Refused.is)))
 
 pub read_file_spec : {M : Type 1} → statement M
 read_file_spec =

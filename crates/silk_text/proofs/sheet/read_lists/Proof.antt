@@ -30,17 +30,11 @@ same_length c = search rules
 same-length-2 : tie.Need-shape_of-cells-in_default
 same-length-2 c = search rules
 
--- where the colours are read, seen from what they came to
-abbrev colours : tie.In-To-2 → tie.After-read_colours
-colours c = c.before.before.before.before
-
 returns : tie.Need-returns-in_default
 unfolding got_list got_list_bytes got_file
 returns c =
-    let rows = c.before.before.before in
-    let to = rows.before.before.before in
-    let p = onto_got _ _ _ _ (known (got_list _ _) (colours to).read_colours.ensures to.to-1.given.1) in
-    sym (lent_no _ _ (lists_no_rows _ _ p.read (onto_no _ _ _ _ (known (got_list_bytes _ _) rows.read_rows.ensures c.enum_told-1.given.1))))
+    let p = onto_got _ _ _ _ (known (got_list _ _) c.read_colours.ensures c.in-To.is) in
+    sym (lent_no _ _ (lists_no_rows _ _ p.read (onto_no _ _ _ _ (known (got_list_bytes _ _) c.read_rows.ensures c.in_default.is))))
 
 enum-known-n : tie.Need-enum_known-n
 enum-known-n c = search rules
@@ -54,10 +48,8 @@ same-length-4 c = search rules
 returns-2 : tie.Need-returns-in-To-read_rows
 unfolding got_list got_list_bytes got_file
 returns-2 c =
-    let rows = c.before.before.before.before in
-    let to = rows.before.before.before in
-    let p = onto_got _ _ _ _ (known (got_list _ _) (colours to).read_colours.ensures to.to-1.given.1) in
-    let l = onto_got _ _ _ _ (known (got_list_bytes _ _) rows.read_rows.ensures c.before.end-1.given.1) in
+    let p = onto_got _ _ _ _ (known (got_list _ _) c.read_colours.ensures c.in-To.is) in
+    let l = onto_got _ _ _ _ (known (got_list_bytes _ _) c.read_rows.ensures c.in-To-read_rows.is) in
     sym (lent_yes _ _ (lists_yes _ _ p.read l.read) p.list l.list)
 
 same-length-5 : tie.Need-shape_of-palette-in-Refused
@@ -66,8 +58,7 @@ same-length-5 c = search rules
 returns-3 : tie.Need-returns-in-Refused
 unfolding got_list got_file
 returns-3 c =
-    let n = c.before in
-    sym (lent_no _ _ (lists_no_colours _ _ (onto_no _ _ _ _ (known (got_list _ _) n.before.before.before.before.read_colours.ensures n.n-1.given.1))))
+    sym (lent_no _ _ (lists_no_colours _ _ (onto_no _ _ _ _ (known (got_list _ _) c.read_colours.ensures c.in-Refused.is))))
 
 pub read_lists_spec : {M : Type 1} → statement M
 read_lists_spec =

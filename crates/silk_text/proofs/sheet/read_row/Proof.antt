@@ -22,7 +22,7 @@ enum_told c = search rules
 
 returns : tie.Need-returns-in_default
 unfolding row_line got_bytes codes got_list_bytes
-returns c = sym (onto_not _ _ _ _ (line_no_key _ _ _ (known (got_bytes _) c.before.before.bytes.ensures c.enum_told-1.given.1)))
+returns c = sym (onto_not _ _ _ _ (line_no_key _ _ _ (known (got_bytes _) c.bytes.ensures c.in_default.is)))
 
 read-cells-requires : tie.Need-read_cells-requires
 read-cells-requires c κs = omega arith
@@ -39,9 +39,7 @@ same_length c = search rules
 returns-2 : tie.Need-returns-in_default-read_cells
 unfolding row_line got_bytes codes got_list_bytes
 returns-2 c =
-    let cells = c.before.before.before in
-    let first = cells.before.before in
-    sym (onto_not _ _ _ _ (line_no_value _ _ _ (known (got_bytes _) first.before.before.before.bytes.ensures first.before.first-1.given.1) (onto_no _ _ _ _ (known (got_list_bytes _ _) cells.read_cells.ensures c.enum_told-in_default-read_cells-1.given.1))))
+    sym (onto_not _ _ _ _ (line_no_value _ _ _ (known (got_bytes _) c.bytes.ensures c.in-To.is) (onto_no _ _ _ _ (known (got_list_bytes _ _) c.read_cells.ensures c.in_default-read_cells.is))))
 
 bytes-requires-2 : tie.Need-bytes-requires-2
 bytes-requires-2 c κs = tt
@@ -58,12 +56,8 @@ same-length-2 c = search rules
 returns-3 : tie.Need-returns-in_default-bytes
 unfolding row_line got_bytes codes got_list_bytes newline
 returns-3 c =
-    let bytes2 = c.before.before in
-    let last = bytes2.before.before in
-    let cells = last.before.before.before.before in
-    let first = cells.before.before in
-    let l = (onto_got _ _ _ _ (known (got_list_bytes _ _) cells.read_cells.ensures last.before.last-1.given.1)) in
-    sym (onto_not _ _ _ _ (line_no_end _ _ _ (known (got_bytes _) first.before.before.before.bytes.ensures first.before.first-1.given.1) l.read (known (got_bytes _) bytes2.bytes-2.ensures c.enum_told-in_default-bytes-1.given.1)))
+    let l = (onto_got _ _ _ _ (known (got_list_bytes _ _) c.read_cells.ensures c.in-To-read_cells.is)) in
+    sym (onto_not _ _ _ _ (line_no_end _ _ _ (known (got_bytes _) c.bytes.ensures c.in-To.is) l.read (known (got_bytes _) c.bytes-2.ensures c.in_default-bytes.is)))
 
 same-length-3 : tie.Need-shape_of-cells
 same-length-3 c = search rules
@@ -71,12 +65,8 @@ same-length-3 c = search rules
 returns-4 : tie.Need-returns
 unfolding row_line got_bytes codes got_list_bytes newline
 returns-4 c =
-    let bytes2 = c.before.before.before in
-    let last = bytes2.before.before in
-    let cells = last.before.before.before.before in
-    let first = cells.before.before in
-    let l = (onto_got _ _ _ _ (known (got_list_bytes _ _) cells.read_cells.ensures last.before.last-1.given.1)) in
-    sym (onto_yes _ _ _ _ (line_yes _ _ _ (known (got_bytes _) first.before.before.before.bytes.ensures first.before.first-1.given.1) l.read (known (got_bytes _) bytes2.bytes-2.ensures c.before.next-1.given.1)) l.list)
+    let l = (onto_got _ _ _ _ (known (got_list_bytes _ _) c.read_cells.ensures c.in-To-read_cells.is)) in
+    sym (onto_yes _ _ _ _ (line_yes _ _ _ (known (got_bytes _) c.bytes.ensures c.in-To.is) l.read (known (got_bytes _) c.bytes-2.ensures c.in-To-bytes.is)) l.list)
 
 pub read_row_spec : {M : Type 1} → statement M
 read_row_spec =

@@ -9,10 +9,6 @@ use Rattle.silk_text.proofs.Whole.{text_no, text_over, text_yes}
 use Rattle.silk_text.proofs.sheet.read_text.Statement.{statement}
 use Rattle.silk_text.proofs.sheet.read_text.Tie as tie
 
--- where the file is read, seen from the head that it came to
-abbrev read_file : tie.In-Value-2 → tie.After-read_file
-read_file c = c.before.before.before.before.before
-
 limited-requires : tie.Need-limited-part-requires
 limited-requires c κs = tt
 
@@ -31,10 +27,7 @@ same-length-2 c = search rules
 returns : tie.Need-returns-then-end-part
 unfolding got_file got_sheet
 returns c =
-    let h = c.before.before.before in
-    let file = read_file h in
-    let part = file.before.before.before in
-    sym (text_over _ _ _ _ part.limited-part.ensures _ (known (got_file _ _ _) file.read_file.ensures h.h-1.given.1) (inl c.if-end-part.true))
+    sym (text_over _ _ _ _ c.limited-part.ensures _ (known (got_file _ _ _) c.read_file.ensures c.in-Value.is) (inl c.if-end-part.true))
 
 same-length-3 : tie.Need-shape_of-palette-then-part-text
 same-length-3 c = search rules
@@ -45,10 +38,7 @@ same-length-4 c = search rules
 returns-2 : tie.Need-returns-then-part-text
 unfolding got_file got_sheet
 returns-2 c =
-    let h = c.before.before.before.before in
-    let file = read_file h in
-    let part = file.before.before.before in
-    sym (text_over _ _ _ _ part.limited-part.ensures h.h-1.given.0.1.0.at (known (got_file _ _ _) file.read_file.ensures h.h-1.given.1) (inr c.if-part-text.true))
+    sym (text_over _ _ _ _ c.limited-part.ensures c.in-Value.end.at (known (got_file _ _ _) c.read_file.ensures c.in-Value.is) (inr c.if-part-text.true))
 
 enum-known-n : tie.Need-enum_known-n
 enum-known-n c = search rules
@@ -62,10 +52,7 @@ same-length-6 c = search rules
 returns-3 : tie.Need-returns-else-part-text
 unfolding got_file got_sheet
 returns-3 c =
-    let h = c.before.before.before.before in
-    let file = read_file h in
-    let part = file.before.before.before in
-    sym (text_yes _ _ _ _ part.limited-part.ensures _ (known (got_file _ _ _) file.read_file.ensures h.h-1.given.1) c.before.if-end-part.false c.if-part-text.false)
+    sym (text_yes _ _ _ _ c.limited-part.ensures _ (known (got_file _ _ _) c.read_file.ensures c.in-Value.is) c.if-end-part.false c.if-part-text.false)
 
 same-length-7 : tie.Need-shape_of-palette-in-Refused
 same-length-7 c = search rules
@@ -76,9 +63,7 @@ same-length-8 c = search rules
 returns-4 : tie.Need-returns-in-Refused
 unfolding got_file got_sheet
 returns-4 c =
-    let file = c.before.before.before.before.before.before in
-    let part = file.before.before.before in
-    sym (text_no _ _ _ _ part.limited-part.ensures (known (got_file _ _ _) file.read_file.ensures c.before.n-1.given.1))
+    sym (text_no _ _ _ _ c.limited-part.ensures (known (got_file _ _ _) c.read_file.ensures c.in-Refused.is))
 
 pub read_text_spec : {M : Type 1} → statement M
 read_text_spec =
