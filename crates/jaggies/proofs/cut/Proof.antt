@@ -81,7 +81,7 @@ arms-requires : tie.Need-arms-requires
 arms-requires c κs = (c.requires.0, same_way c.before.before.before.before, c.requires.2)
 
 returns-3 : tie.Need-returns-then-not-arms
-returns-3 c = (λ old seen. rest c old seen false (rw (sym (arms_tells c.before old seen) ∙ c.if-not-arms.true)), omega arith)
+returns-3 c = (λ old seen. rest c.before.before old seen false (rw (sym (arms_tells c.before old seen) ∙ c.if-not-arms.true)), omega arith)
 
 around-requires : tie.Need-around-requires
 around-requires c κs =

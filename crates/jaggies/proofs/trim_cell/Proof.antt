@@ -72,7 +72,7 @@ same_length c = search rules
 returns-2 : tie.Need-returns
 returns-2 c old held t =
     let b = c.trimmed-b.ensures.1 in
-    rw (to_z_pos w32 {c = c.trimmed-b.result - 1} (omega arith))
+    rw (to_z_pos w32 {n = c.trimmed-b.result - 1} (omega arith))
     (becomes t (inside c.before.before.before.before.before).0 _ _ (own c.before.before.before.before.before old held) (omega (arith, c.if-a-eq0)) (c.trimmed-b.ensures.0 old (shown c.requires.col held t)) b.0)
 
 pub trim_cell_spec : {M : Type 1} → statement M

@@ -43,7 +43,7 @@ on-one-requires-2 c κs = search rules
 returns-2 : tie.Need-returns-then-not-on_one
 returns-2 c =
     (
-      λ old seen. elim (either_no c.on_one.result c.on_one-2.result c.if-not-on_one.true) [
+      λ old seen. elim (either_no c.on_one.result c.on_one-2.result (ap not c.if-not-on_one.true)) [
         | inl z ↦ level _ _ _ c.requires.1 _ _ _ _ (c.look-left.ensures.0 old seen) (c.look-right.ensures.0 old seen) (c.look-above.ensures.0 old seen) (c.look-below.ensures.0 old seen) (c.on_one.ensures z)
         | inr z ↦ upright _ _ _ c.requires.1 _ _ _ _ (c.look-left.ensures.0 old seen) (c.look-right.ensures.0 old seen) (c.look-above.ensures.0 old seen) (c.look-below.ensures.0 old seen) (c.on_one-2.ensures z)
       ],

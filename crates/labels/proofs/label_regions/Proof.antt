@@ -47,7 +47,7 @@ load-requires c κs = let f = fit c.before in whole_tile _ _ _ _ (omega (arith, 
 label-into-requires : tie.Need-label_into-count-requires
 label-into-requires c κs =
     let f = fit c.before.before.before.before.before.before in (
-      (record { rows = omega (arith, f.0.high); cols = omega (arith, f.0.wide); count = inr refl; planes = omega (arith, f.0.free, c.load.kept.1.0) }, f.1),
+      (record { rows = omega (arith, f.0.high); cols = omega (arith, f.0.wide); count = inr refl; planes = omega (arith, f.0.free, c.load.auto.work) }, f.1),
       paints_plane c.load.ensures.1,
     )
 

@@ -50,7 +50,7 @@ same_length c = c.wipe.ensures.len
 returns : tie.Need-returns-then-max_passes-eq0
 unfolding rule_of
 returns c =
-    cleaned_none (ruled c.before.before.before.before.before.before.before.before) (n c.before.before.before.before.before.before.before.before) c.args.by.k c.args.max-passes c.args.work.now c.wipe.new.work refl c.if-max_passes-eq0.true c.requires.1.0 c.wipe.ensures
+    cleaned_none (ruled c.before.before.before.before.before.before.before.before) (n c.before.before.before.before.before.before.before.before) c.args.by.k c.args.max_passes c.args.work.now c.wipe.new.work refl c.if-max_passes-eq0.true c.requires.1.0 c.wipe.ensures
 
 -- ---- the sheet is labelled
 
@@ -66,7 +66,7 @@ cast-count : tie.Need-overflow_cast-count
 cast-count c = search rules
 
 -- a pass is asked for
-asked : (c : tie.After-label_planes-t) → 0 < c.args.max-passes
+asked : (c : tie.After-label_planes-t) → 0 < c.args.max_passes
 asked c = omega (arith, c.if-max_passes-eq0.false)
 
 -- what labelling left
@@ -87,7 +87,7 @@ returns-2 : tie.Need-returns-then-not-any_small
 unfolding rule_of
 returns-2 c =
     let u = labelling_of c.before.before.before.before.before in
-    cleaned_still (ruled c.before.before.before.before.before.before.before.before.before.before.before.before.before.before.before.before) (n c.before.before.before.before.before.before.before.before.before.before.before.before.before.before.before.before) c.args.by.k c.args.max-passes c.args.work.now c.label_planes-t.new.work (labelled_state u (ruled c.before.before.before.before.before.before.before.before.before.before.before.before.before.before.before.before) refl) u.len (asked c.before.before.before.before.before)
+    cleaned_still (ruled c.before.before.before.before.before.before.before.before.before.before.before.before.before.before.before.before) (n c.before.before.before.before.before.before.before.before.before.before.before.before.before.before.before.before) c.args.by.k c.args.max_passes c.args.work.now c.label_planes-t.new.work (labelled_state u (ruled c.before.before.before.before.before.before.before.before.before.before.before.before.before.before.before.before) refl) u.len (asked c.before.before.before.before.before)
     (passed_still u c.args.palette.now (sym c.any_small.ensures ∙ c.if-not-any_small.true))
 
 -- ---- else the planes are made ready
@@ -136,7 +136,7 @@ same-length-3 c = first-length c.before.before.before
 returns-3 : tie.Need-returns-then-end-eq0
 returns-3 c =
     let g = ground c.before.before.before.before.before.before.before in
-    cleaned-first (ruled c.before.before.before.before.before.before.before.before.before.before.before.before.before.before.before.before.before.before.before.before.before.before.before.before.before.before.before.before.before) c.args.grid c.args.by.k c.args.max-passes c.args.work.now c.mark_large.new.work c.first_pass-end.new.work g.state g.len g.at-start.known (asked c.before.before.before.before.before.before.before.before.before.before.before.before.before.before.before.before.before.before) c.first_pass-end.ensures c.if-end-eq0.true
+    cleaned-first (ruled c.before.before.before.before.before.before.before.before.before.before.before.before.before.before.before.before.before.before.before.before.before.before.before.before.before.before.before.before.before) c.args.grid c.args.by.k c.args.max_passes c.args.work.now c.mark_large.new.work c.first_pass-end.new.work g.state g.len g.at-start.known (asked c.before.before.before.before.before.before.before.before.before.before.before.before.before.before.before.before.before.before) c.first_pass-end.ensures c.if-end-eq0.true
 
 sub-left : tie.Need-overflow_sub-left
 sub-left c = let m = asked c.before.before.before.before.before.before.before.before.before.before.before.before.before.before.before.before.before.before in omega arith
@@ -150,13 +150,13 @@ grown c = omega (arith, c.if-end-eq0.false)
 returns-4 : tie.Need-returns
 returns-4 c =
     let g = ground c.before.before.before.before.before.before.before.before.before.before.before in
-    cleaned-more (ruled c.before.before.before.before.before.before.before.before.before.before.before.before.before.before.before.before.before.before.before.before.before.before.before.before.before.before.before.before.before.before.before.before.before) c.args.grid c.args.by.k c.args.max-passes c.args.work.now c.mark_large.new.work c.first_pass-end.new.work g.state g.len g.at-start.known (asked c.before.before.before.before.before.before.before.before.before.before.before.before.before.before.before.before.before.before.before.before.before.before) c.first_pass-end.ensures (grown c.before.before.before.before) c.later_passes-more.ensures.0
+    cleaned-more (ruled c.before.before.before.before.before.before.before.before.before.before.before.before.before.before.before.before.before.before.before.before.before.before.before.before.before.before.before.before.before.before.before.before.before) c.args.grid c.args.by.k c.args.max_passes c.args.work.now c.mark_large.new.work c.first_pass-end.new.work g.state g.len g.at-start.known (asked c.before.before.before.before.before.before.before.before.before.before.before.before.before.before.before.before.before.before.before.before.before.before) c.first_pass-end.ensures (grown c.before.before.before.before) c.later_passes-more.ensures.0
 
 later-passes-requires : tie.Need-later_passes-more-requires
 later-passes-requires c κs = (c.first_pass-end.ensures.next (grown c.before), c.requires.1.1)
 
 add-result : tie.Need-overflow_add-result
-add-result c = omega (arith, c.later_passes-more.ensures.1, c.ranges.max-passes)
+add-result c = omega (arith, c.later_passes-more.ensures.1, c.ranges.max_passes)
 
 same-length-4 : tie.Need-shape_of-work
 same-length-4 c = c.later_passes-more.ensures.0.len ∙ first-length c.before.before.before.before.before.before.before

@@ -30,7 +30,7 @@ back c = to_z-of_z {w = w32} {z = region c} (known c)
 
 returns : tie.Need-returns-then-min_region-lt2
 returns c =
-    none_cleaned c.requires c.args.max-passes c.args.limits.colour (rw (back c.before) at c.if-min_region-lt2.true)
+    none_cleaned c.requires c.args.max_passes c.args.limits.colour (rw (back c.before) at c.if-min_region-lt2.true)
 
 low : (c : tie.Else-min_region-lt2) → lt_z (region c.before) (pos 2) ≡ false
 low c = rw (back c.before) at c.if-min_region-lt2.false
@@ -76,7 +76,7 @@ returns-2 : tie.Need-returns
 returns-2 c =
     let z = region c in
     let e : pos (nat_abs (to_z w32 (of_z w32 z))) ≡ z = rw (back c) (pos-nat_abs z (not_negative_lem z (low c.before.before.before.before.before.before.before.before.before.before.before))) in
-    let r = all_cleaned c.requires c.args.max-passes c.args.limits.colour (nat_abs (to_z w32 (of_z w32 z))) e c.load.new.work c.clean_planes-count.new.work c.clean_planes-count.result (painted c.before.before.before.before.before.before.before.before.before) c.clean_planes-count.ensures in
+    let r = all_cleaned c.requires c.args.max_passes c.args.limits.colour (nat_abs (to_z w32 (of_z w32 z))) e c.load.new.work c.clean_planes-count.new.work c.clean_planes-count.result (painted c.before.before.before.before.before.before.before.before.before) c.clean_planes-count.ensures in
     (r.0, c.store.ensures ∙ store_whole c.args.cells.now c.clean_planes-count.new.work c.args.size.h c.args.size.w c.requires.reads ∙ r.1)
 
 pub clean_sheet_spec : {M : Type 1} → statement M

@@ -30,13 +30,13 @@ call c =
     record {
       lent = lent_sheet s.cells.now s.h s.w (length s.work.now);
       palette = palette_of s.palette.now s.k;
-      limits = limits_at s.orphan-min-region s.orphan-max-delta;
-      passes = s.max-passes;
+      limits = limits_at s.orphan_min_region s.orphan_max_delta;
+      passes = s.max_passes;
     }
 
 -- the region limit comes back from its 32 bits
-back : (c : tie.After-sheet_refusal) → to_z w32 (of_z w32 c.args.orphan-min-region) ≡ c.args.orphan-min-region
-back c = to_z-of_z c.ranges.orphan-min-region
+back : (c : tie.After-sheet_refusal) → to_z w32 (of_z w32 c.args.orphan_min_region) ≡ c.args.orphan_min_region
+back c = to_z-of_z c.ranges.orphan_min_region
 
 -- ---- rows 1 to 3
 

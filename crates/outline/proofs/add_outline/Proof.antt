@@ -27,7 +27,7 @@ call c =
     record {
       lent = lent_sheet s.cells.now s.h s.w (length s.work.now);
       palette = palette_of s.palette.now s.k;
-      how = record { outline = s.outline; allow_pad = s.allow-pad; fixed_palette = s.fixed-palette };
+      how = record { outline = s.outline; allow_pad = s.allow_pad; fixed_palette = s.fixed_palette };
     }
 
 abbrev pads_it : tie.After-padding-padding → Bool

@@ -31,13 +31,13 @@ call c =
       palette = palette_of a.palette.now a.k;
       config = a.config;
       saturated = a.saturated;
-      fixed = a.fixed-palette;
-      margin = a.outline-margin;
+      fixed = a.fixed_palette;
+      margin = a.outline_margin;
     }
 
 -- a call is handed the margin by its bits
 margin_is : (c : tie.After-run_refusal) → to_z w32 (of_z w32 (call c).margin) ≡ (call c).margin
-margin_is c = to_z-of_z c.ranges.outline-margin
+margin_is c = to_z-of_z c.ranges.outline_margin
 
 told : (c : tie.After-run_refusal) → c.run_refusal.result ≡ filling (run_refusal (call c))
 told c = rw (margin_is c) at c.run_refusal.ensures

@@ -12,8 +12,8 @@ pad-allowed-requires c κs = search rules
 
 returns : tie.Need-returns
 returns c =
-    ap (λ (b : Bool). record { outline = c.args.config.outline; allow_pad = b; fixed_palette = c.args.fixed-palette })
-    (c.pad_allowed-allow_pad.ensures ∙ ap (pad_allowed c.args.config) (to_z-of_z c.ranges.outline-margin))
+    ap (λ (b : Bool). record { outline = c.args.config.outline; allow_pad = b; fixed_palette = c.args.fixed_palette })
+    (c.pad_allowed-allow_pad.ensures ∙ ap (pad_allowed c.args.config) (to_z-of_z c.ranges.outline_margin))
 
 pub drawing_spec : {M : Type 1} → statement M
 drawing_spec = tie.close (tie.spec

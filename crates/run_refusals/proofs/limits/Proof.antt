@@ -7,7 +7,7 @@ use Rattle.run_refusals.proofs.limits.Statement.{statement}
 use Rattle.run_refusals.proofs.limits.Tie as tie
 
 returns : tie.Need-returns
-returns c = ap (le_z (pos 2)) (to_z-of_z c.ranges.min-region)
+returns c = ap (le_z (pos 2)) (to_z-of_z c.ranges.min_region)
 
 pub limits_spec : {M : Type 1} → statement M
 limits_spec = tie.close (tie.spec

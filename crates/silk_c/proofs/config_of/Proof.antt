@@ -17,7 +17,7 @@ is-set-requires-3 c κs = search rules
 returns : tie.Need-returns
 unfolding config_of
 returns c =
-    rw (c.is_set.ensures, c.is_set-2.ensures, c.is_set-3.ensures, to_z-of_z c.ranges.orphan-min-region)
+    rw (c.is_set.ensures, c.is_set-2.ensures, c.is_set-3.ensures, to_z-of_z c.ranges.orphan_min_region)
 
 pub config_of_spec : {M : Type 1} → statement M
 config_of_spec = tie.close (tie.spec

@@ -41,7 +41,7 @@ same-length-3 c = search rules
 returns-2 : tie.Need-returns
 unfolding after_facts_rows
 returns-2 c =
-    let r = rw (to_z-of_z c.ranges.orphan-min-region) at c.remove_orphans-answer.ensures in
+    let r = rw (to_z-of_z c.ranges.orphan_min_region) at c.remove_orphans-answer.ensures in
     heard_one _ c.facts_rows.ensures c.in_default.is cleaned _ c.tell_passes.ensures _ r
 
 pub silk_remove_orphans_spec : {M : Type 1} → statement M

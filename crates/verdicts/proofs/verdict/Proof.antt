@@ -239,20 +239,16 @@ poll-requires c κs =
 
 choice-requires : tie.Need-choice-requires
 choice-requires c κs =
-    let e = found (asked (told c)) in
-    let p = paint e in
-    (p.few, omega (arith, p), (start e).pre.1.0.1)
+    let p = paint c.before.before.before.before.before.before.before.before.before.before.before.before.before.before.before in
+    (p.few, omega (arith, p), c.requires.1.0.1)
 
 same-length-4 : tie.Need-shape_of-work
 same-length-4 c = search rules
 
 returns-5 : tie.Need-returns
 returns-5 c =
-    let o = asked (told c) in
-    let e = found o in
-    let s = start e in
-    let u = waiting o in
-    judged_polled s.args.by s.args.palette.now s.pre.0.0 s.pre.1.1.0 s.pre.0.1 (span e) e.region-span.ensures u.free u.little s.pre.1.0.0 u.fresh c.poll.ensures (paint e).is c.choice.ensures
+    let u = waiting c.before.before.before.before.before.before.before.before.before.before.before.before in
+    judged_polled c.args.by c.args.palette.now c.requires.0.0 c.requires.1.1.0 c.requires.0.1 (span c.before.before.before.before.before.before.before.before.before.before.before.before.before.before.before.before) c.region_span-span.ensures u.free u.little c.requires.1.0.0 u.fresh c.poll.ensures (paint c.before.before.before.before.before.before.before.before.before.before.before.before.before.before.before.before).is c.choice.ensures
 
 pub verdict_spec : {M : Type 1} → statement M
 verdict_spec =

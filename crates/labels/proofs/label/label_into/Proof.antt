@@ -17,7 +17,7 @@ copy-requires c κs =
     (omega (arith, c.requires.0.0.planes, c.label_planes-t.ensures.1.size), c.requires.0.1, area _ _ c.requires.0.0.rows c.requires.0.0.cols)
 
 same_length : tie.Need-shape_of-work
-same_length c = (labelled c).label-planes.ensures.1.size
+same_length c = c.label_planes-t.ensures.1.size
 
 same-length-2 : tie.Need-shape_of-labels
 same-length-2 c = c.copy.auto.labels

@@ -35,16 +35,16 @@ sub-from : tie.Need-overflow_sub-from
 sub-from c = (on c).low
 
 mul-from : tie.Need-overflow_mul-from
-mul-from c = record { fits = omega (arith, (on c).ranges) }
+mul-from c = record { fits = omega (arith, (on c).fits) }
 
 sub-from-2 : tie.Need-overflow_sub-from-then-on_sheet
 sub-from-2 c = (on c).left
 
 add-from : tie.Need-overflow_add-from
-add-from c = record { fits = omega (arith, (on c).ranges) }
+add-from c = record { fits = omega (arith, (on c).fits) }
 
 mul-result : tie.Need-offset_bounds-cells-from
-mul-result c = record { fits = omega (arith, (on c).ranges) }
+mul-result c = record { fits = omega (arith, (on c).fits) }
 
 shared-slice-copy-out-result : tie.Need-bounds-cells-from
 shared-slice-copy-out-result c = omega (arith, (on c).held)

@@ -6,18 +6,18 @@ use Rattle.outline.proofs.rows.pads.Statement.{statement}
 use Rattle.outline.proofs.rows.pads.Tie as tie
 
 returns : tie.Need-returns-then-not-how
-returns c = rw c.if-not-how.true
+returns c = rw (not-true c.args.how.allow_pad c.if-not-how.true)
 
 asked-requires : tie.Need-asked-requires
 asked-requires c κs = search rules
 
 returns-2 : tie.Need-returns-then-not-asked
 returns-2 c =
-    rw (c.if-not-how.false, sym c.asked.ensures ∙ c.if-not-asked.true)
+    rw (not-false c.args.how.allow_pad c.if-not-how.false, sym c.asked.ensures ∙ c.if-not-asked.true)
 
 returns-3 : tie.Need-returns
 returns-3 c =
-    rw (c.if-not-how.false, sym c.asked.ensures ∙ c.if-not-asked.false)
+    rw (not-false c.args.how.allow_pad c.if-not-how.false, sym c.asked.ensures ∙ c.if-not-asked.false)
 
 pub pads_spec : {M : Type 1} → statement M
 pads_spec = tie.close (tie.spec

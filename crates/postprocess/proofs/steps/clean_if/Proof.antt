@@ -23,7 +23,7 @@ back c = to_z-of_z {w = w32} {z = c.args.config.orphan_min_region} (record { sfi
 returns : tie.Need-returns-then-not-config
 returns c =
     let a = c.args in
-    uncleaned a.cells.now a.size.h a.size.w a.max-passes (palette_of a.palette.now a.k) (limits_of a.config) a.config.remove_orphans c.requires.0 (not_true _ c.if-not-config.true)
+    uncleaned a.cells.now a.size.h a.size.w a.max_passes (palette_of a.palette.now a.k) (limits_of a.config) a.config.remove_orphans c.requires.0 (not_true _ c.if-not-config.true)
 
 returns-2 : tie.Need-returns
 unfolding limits_of
@@ -32,9 +32,9 @@ returns-2 c =
     let p = palette_of a.palette.now a.k in
     let s = sheet_of a.cells.now a.size.h a.size.w in
     let d = a.config.orphan_max_delta in
-    cleans a.cells.now a.size.h a.size.w a.max-passes p (limits_of a.config) a.config.remove_orphans c.if-not-config.false
-    (c.clean_sheet.ensures.0 ∙ ap (λ (z : ℤ). (clean_sheet a.max-passes p (limits_at z d) s).passes) (back c.before.before.before.before.before.before))
-    (c.clean_sheet.ensures.1 ∙ ap (λ (z : ℤ). over (clean_sheet a.max-passes p (limits_at z d) s).sheet.cells a.cells.now) (back c.before.before.before.before.before.before))
+    cleans a.cells.now a.size.h a.size.w a.max_passes p (limits_of a.config) a.config.remove_orphans c.if-not-config.false
+    (c.clean_sheet.ensures.0 ∙ ap (λ (z : ℤ). (clean_sheet a.max_passes p (limits_at z d) s).passes) (back c.before.before.before.before.before.before))
+    (c.clean_sheet.ensures.1 ∙ ap (λ (z : ℤ). over (clean_sheet a.max_passes p (limits_at z d) s).sheet.cells a.cells.now) (back c.before.before.before.before.before.before))
 
 clean-sheet-requires : tie.Need-clean_sheet-requires
 clean-sheet-requires c κs =

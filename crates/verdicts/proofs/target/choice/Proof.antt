@@ -15,7 +15,7 @@ most-requires c κs = search rules
 
 returns : tie.Need-returns-then-m-eq0
 returns c =
-    choice_none (entry_distance c.args.palette.now c.args.own_val) c.args.counts.now c.args.k c.most-m.result c.args.max-delta
+    choice_none (entry_distance c.args.palette.now c.args.own) c.args.counts.now c.args.k c.most-m.result c.args.max_delta
     c.most-m.ensures c.if-m-eq0.true
 
 nearest-requires : tie.Need-nearest-requires
@@ -28,19 +28,19 @@ enum_told : tie.Need-enum_told-1
 enum_told c = search rules
 
 -- what a target comes to
-chosen : (c : tie.After-nearest) (t : Target) → t ≡ c.nearest.result → decision t c.args.max-delta ≡ choice (entry_distance c.args.palette.now c.args.own_val) c.args.counts.now c.args.k c.args.max-delta
+chosen : (c : tie.After-nearest) (t : Target) → t ≡ c.nearest.result → decision t c.args.max_delta ≡ choice (entry_distance c.args.palette.now c.args.own) c.args.counts.now c.args.k c.args.max_delta
 chosen c t e =
-    choice_some (entry_distance c.args.palette.now c.args.own_val) c.args.counts.now c.args.k c.most-m.result c.args.max-delta
+    choice_some (entry_distance c.args.palette.now c.args.own) c.args.counts.now c.args.k c.most-m.result c.args.max_delta
     c.most-m.ensures c.if-m-eq0.false t (e ∙ c.nearest.ensures)
 
 returns-2 : tie.Need-returns-in_default
 returns-2 c =
-    decision_none c.args.max-delta ∙ chosen c.before Nothing (sym c.in_default.is)
+    decision_none c.args.max_delta ∙ chosen c.before Nothing (sym c.in_default.is)
 
 -- the target is below k
 few : (c : tie.In-Index) → c.in-Index.c < 256
 few c =
-    let l : c.in-Index.c < c.args.k = nearest-below (entry_distance c.args.palette.now c.args.own_val) c.args.counts.now c.most-m.result c.args.k c.in-Index.c c.in-Index.d (sym c.nearest.ensures ∙ c.in-Index.is) in
+    let l : c.in-Index.c < c.args.k = nearest-below (entry_distance c.args.palette.now c.args.own) c.args.counts.now c.most-m.result c.args.k c.in-Index.c c.in-Index.d (sym c.nearest.ensures ∙ c.in-Index.is) in
     omega (arith, c.requires.0)
 
 decide-requires : tie.Need-decide-requires

@@ -51,16 +51,16 @@ loop-again c =
     (λ w. (
       w.best-is ∙ w.nearer-best.ensures
           ∙ ap (nearer c.loop-c.best i) (w.distance.ensures ∙ ap₂ distance c.entry-from.ensures w.entry.ensures)
-          ∙ nearest-more (entry_distance u c.args.own_val) c.args.counts.now c.args.m i c.loop-c.best c.loop-c.invariant.0 w.if-counts-c.true,
+          ∙ nearest-more (entry_distance u c.args.own) c.args.counts.now c.args.m i c.loop-c.best c.loop-c.invariant.0 w.if-counts-c.true,
       omega arith,
     ))
-    (λ w. (w.best-is ∙ nearest-same (entry_distance u c.args.own_val) c.args.counts.now c.args.m i c.loop-c.best c.loop-c.invariant.0 w.if-counts-c.false, omega arith))
+    (λ w. (w.best-is ∙ nearest-same (entry_distance u c.args.own) c.args.counts.now c.args.m i c.loop-c.best c.loop-c.invariant.0 w.if-counts-c.false, omega arith))
     c.if-counts-c.branch-raw
 
 returns : tie.Need-returns invariant-loop decreases-loop
 returns c =
     let e : c.loop-c.c ≡ c.args.k = omega arith in
-    c.loop-c.invariant.0 ∙ ap (nearest (entry_distance c.args.palette.now c.args.own_val) c.args.counts.now c.args.m) e
+    c.loop-c.invariant.0 ∙ ap (nearest (entry_distance c.args.palette.now c.args.own) c.args.counts.now c.args.m) e
 
 pub nearest_spec : {M : Type 1} → statement M
 nearest_spec =

@@ -13,7 +13,7 @@ use Rattle.verdicts.proofs.target.only_choice.Tie as tie
 returns : tie.Need-returns
 unfolding entry_distance decision
 returns c =
-    c.decide.ensures ∙ ap (λ (b : Bool). cond b (c.args.c + 2) 1) (c.closer_than-near.ensures ∙ ap₂ (λ (p q : Lab). lt (distance p q) c.args.max-delta) c.entry.ensures c.entry-2.ensures)
+    c.decide.ensures ∙ ap (λ (b : Bool). cond b (c.args.c + 2) 1) (c.closer_than-near.ensures ∙ ap₂ (λ (p q : Lab). lt (distance p q) c.args.max_delta) c.entry.ensures c.entry-2.ensures)
 
 entry-requires : tie.Need-entry-requires
 entry-requires c κs = search rules
