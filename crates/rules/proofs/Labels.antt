@@ -11,7 +11,7 @@ use lib.IntN.{ℤ}
 use lib.Dec.{leb, eqb}
 use lib.ListN.{length}
 use Rattle.base.specs.Places.{count}
-use Rattle.rules.specs.Regions.{at, opaque, Joined, held, roots, root, inside, first, label, Symmetric}
+use Rattle.rules.specs.Regions.{opaque, Joined, held, roots, root, inside, first, label, Symmetric}
 use Rattle.base.proofs.Counting.{case, leb_yes, no_leb, left, right, eqb_yes, count_some}
 use Rattle.rules.proofs.Roots.{root_below, join_root, root_join, first-root}
 

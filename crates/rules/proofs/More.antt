@@ -9,7 +9,7 @@ use native.Mathlib.Omega.{arith}
 use lib.IntN.{ℤ, pos, negsuc}
 use lib.Signed.{non_neg, lt_z}
 use lib.ListN.{length}
-use Rattle.base.specs.Places.{count, greatest}
+use Rattle.base.specs.Places.{greatest}
 use Rattle.rules.specs.Palette.{first_least}
 use Rattle.rules.specs.Regions.{at, opaque, index, here, roots, first, Symmetric}
 use Rattle.rules.specs.Pass.{Rule, State, View, marked, size, few, small, smalls, top, frequent, target, fates, pass, repaints, moves, fresh, clean}

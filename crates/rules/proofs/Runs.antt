@@ -7,7 +7,6 @@ use native.Mathlib.Nat.{le_refl, le_of_suc-le-suc, not-suc-le-zero}
 use native.Mathlib.Omega.{arith}
 use lib.IntN.{ℤ}
 use lib.ListN.{length}
-use Rattle.base.specs.Places.{count}
 use Rattle.rules.specs.Regions.{at, here, Symmetric}
 use Rattle.rules.specs.Pass.{Rule, State, marked, small, large, smalls, merges, fates, fate, pass, repaints, moves, fresh, clean}
 use Rattle.rules.specs.Claims.{repaintings}

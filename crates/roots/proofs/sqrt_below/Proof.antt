@@ -1,7 +1,7 @@
 -- `roots::sqrt_below` meets its contract. Assumes nothing.
 use mathlib.Core.Path.{sym, ap, subst}
 use Prim.Native.Nat.{◌<◌}
-use lib.Dec.{T, ltb→lt}
+use lib.Dec.{T}
 use lib.Ieee.{Float, binary64, to_bits, fits, lt}
 use lib.Ieee.Bits.{is_true}
 use borrow.Author.Rules.{rules}

@@ -1,4 +1,5 @@
 -- `run_refusals::bad_index_met` meets its contract, test by test. Assumes nothing.
+use mathlib.Core.Bool.{not}
 use mathlib.Core.Path.{◌≡◌, ap, ◌∙◌}
 use lib.IntN.{pos}
 use lib.Signed.{le_z}
@@ -21,7 +22,7 @@ limits-requires : tie.Need-limits-requires
 limits-requires c κs = search rules
 
 returns-2 : tie.Need-returns-then-not-limits
-returns-2 c = strays_unlimited _ _ _ _ _ _ _ (limited c.before) c.if-not-limits.true
+returns-2 c = strays_unlimited _ _ _ _ _ _ _ (limited c.before) (ap not c.if-not-limits.true)
 
 mul-bad-index : tie.Need-overflow_mul-h
 mul-bad-index c = search rules
@@ -31,7 +32,7 @@ bad-index-requires c κs = search rules
 
 returns-3 : tie.Need-returns
 returns-3 c =
-    strays-any _ _ _ _ _ _ _ _ c.if-not-config.false (limited c.before.before) c.if-not-limits.false c.bad_index.ensures
+    strays-any _ _ _ _ _ _ _ _ c.if-not-config.false (limited c.before.before) (ap not c.if-not-limits.false) c.bad_index.ensures
 
 pub bad_index_met_spec : {M : Type 1} → statement M
 bad_index_met_spec =

@@ -69,7 +69,7 @@ one c = filling_none (sheet-judged c.before) c.in_default.is
 padding-is : (c : tie.In_default) → c.padding-padded.result ≡ padding (called c)
 padding-is c =
     let l = (called c).lent in
-    padded-is (drawing_of (called c)) l.cells l.height l.width l.work (padded c) (one c)
+    padded-is (drawing_of (called c)) l.cells l.height l.width l.work (padded c.before.before) (one c)
 
 room : (c : tie.In_default) → let l = (called c).lent in Room l.height l.width (needed l.height l.width (padding (called c))) (length l.cells) l.work
 room c = (sheet_room _ (one c)).0

@@ -1,7 +1,7 @@
 -- `print_result` meets its contract. Assumes nothing.
 use borrow.Author.Rules.{rules}
 use mathlib.Core.Path.{sym, ◌∙◌}
-use borrow.Author.Tests.{not_false}
+use borrow.Author.Tests.{not-false}
 use Rattle.base.proofs.Counting.{not_true}
 use Rattle.silk_print.specs.Print.{result_fits}
 use Rattle.silk_print.proofs.Outcome.{printed_no, printed_yes, fits_printable}
@@ -17,7 +17,7 @@ returns c = printed_no (sym c.lengths_fit.ensures ∙ not_true c.if-not-lengths_
 
 put-result-requires : tie.Need-put_result-requires
 unfolding result_fits
-put-result-requires c κs = fits_printable _ _ _ _ (sym c.lengths_fit.ensures ∙ not_false _ c.if-not-lengths_fit.false)
+put-result-requires c κs = fits_printable _ _ _ _ (sym c.lengths_fit.ensures ∙ c.if-not-lengths_fit.false)
 
 same_length : tie.Need-shape_of-out
 same_length c = search rules
@@ -25,7 +25,7 @@ same_length c = search rules
 returns-2 : tie.Need-returns
 unfolding result_fits
 returns-2 c =
-    printed_yes (sym c.lengths_fit.ensures ∙ not_false _ c.if-not-lengths_fit.false) c.put_result.ensures
+    printed_yes (sym c.lengths_fit.ensures ∙ c.if-not-lengths_fit.false) c.put_result.ensures
 
 pub print_result_spec : {M : Type 1} → statement M
 print_result_spec = tie.close (tie.spec

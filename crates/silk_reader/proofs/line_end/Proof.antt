@@ -1,6 +1,8 @@
 -- `line_end` meets its contract. The loop's invariant: no byte passed is the byte 10. Assumes nothing.
 use Prim.Native.Nat.{◌-◌}
-use mathlib.Core.Path.{refl}
+use mathlib.Core.Path.{refl, ap}
+use mathlib.Core.Bool.{not}
+use borrow.Author.Tests.{eq-eqb, ne_eqb}
 use native.Mathlib.Omega.{arith}
 use lib.ListN.{length}
 use Rattle.silk_reader.specs.Reader.{in_line}
@@ -28,11 +30,11 @@ loop-less c = omega arith
 
 loop-again : tie.Need-loop-end-preserved invariant-loop decreases-loop
 unfolding in_line
-loop-again c = passed_more c.loop-end.invariant c.loop-end-test.true c.if-text-end-ne10.true
+loop-again c = passed_more c.loop-end.invariant c.loop-end-test.true (ap not (ne_eqb _ 10 c.if-text-end-ne10.true))
 
 returns : tie.Need-returns-else-text-end-ne10 invariant-loop decreases-loop
 unfolding in_line
-returns c = passed_to c.loop-end.invariant c.loop-end-test.true c.if-text-end-ne10.false
+returns c = passed_to c.loop-end.invariant c.loop-end-test.true (ap not (eq-eqb _ 10 c.if-text-end-ne10.false))
 
 returns-2 : tie.Need-returns-after-loop-end invariant-loop decreases-loop
 returns-2 c = passed_all c.loop-end.invariant c.loop-end-test.false

@@ -14,7 +14,7 @@ returns-2 : tie.Need-returns-in-2-to-9
 returns-2 c = proper_some _ (omega arith) (omega arith)
 
 returns-3 : tie.Need-returns-in_default
-returns-3 c = proper_none _ (omega arith) c.in_default-1.rest.1
+returns-3 c = proper_none _ (omega arith) c.in_default.in_default-own.rest.1
 
 returns-4 : tie.Need-returns-in_default-2
 returns-4 c = proper_many _ (omega arith)

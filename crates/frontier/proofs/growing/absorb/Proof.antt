@@ -181,7 +181,7 @@ returns-5 c =
     let e = t.ensures.len in
     rw (add-one c.args.end)
     (gained_one c.args.grid c.args.end (work c.before.before.before.before.before.before.before.before.before.before.before.before.before.before.before.before) c.requires.0 (q c.before.before.before.before.before.before.before.before.before.before) (at c.before.before.before.before.before.before.before.before.before.before) z.inside f.label f.little t.new.work t.ensures
-    (7 * n c.before.before.before.before.before.before.before.before.before.before.before.before.before.before.before.before + c.args.end) (omega arith) (omega (arith, f, z)) (Near c.before.before.before.before.before.before.before.before.before.before.before.before.before.before.before.before) (cell c.before.before.before.before.before.before.before.before.before.before, f.paint) (λ x y. only c x y.0))
+    (7 * n c.before.before.before.before.before.before.before.before.before.before.before.before.before.before.before.before + c.args.end) (omega arith) (omega (arith, f, z)) (Near c.before.before.before.before.before.before.before.before.before.before.before.before.before.before.before.before) (cell c.before.before.before.before.before.before.before.before.before.before, f.paint) (λ x y. only c.before.before.before.before.before.before.before.before.before.before x y.0))
 
 pub absorb_spec : {M : Type 1} → statement M
 absorb_spec =

@@ -60,7 +60,7 @@ same_length c = search rules
 returns : tie.Need-returns-then-not-small_near invariant-loop decreases-loop
 returns c =
     gained_none c.args.grid c.args.from _ c.args.work.now c.requires.0
-    (λ q l z y. c.small_near.ensures (not_true c.if-not-small_near.true) q (neighbours_in c.args.grid c.requires.0.sheet.ways c.args.p q l z.0) (z.1 ∙ sym (paint_is c.before.before.before.before.before)))
+    (λ q l z y. c.small_near.ensures c.if-not-small_near.true q (neighbours_in c.args.grid c.requires.0.sheet.ways c.args.p q l z.0) (z.1 ∙ sym (paint_is c.before.before.before.before.before)))
 
 on-edge-requires : tie.Need-on_edge-border-requires invariant-loop decreases-loop
 on-edge-requires c κs = (c.requires.1, c.requires.0.sheet.rows, c.requires.0.sheet.cols)

@@ -1,7 +1,7 @@
 -- `frontier::growing::mark_large`: the groups so far. Assumes nothing.
-use Prim.Native.Nat.{ℕ, suc, ◌-◌, ◌*◌, ◌≤◌, ◌<◌}
+use Prim.Native.Nat.{◌+◌, ℕ, suc, ◌-◌, ◌*◌, ◌≤◌, ◌<◌}
 use mathlib.Core.Path.{◌≡◌}
-use mathlib.Core.Logic.{inl, inr, ⊎_elim}
+use mathlib.Core.Logic.{◌⊎◌, inl, inr, ⊎_elim}
 use mathlib.Core.List.{List}
 use native.Mathlib.Decide.{ℕ_discrete}
 use native.Mathlib.Omega.{arith}
@@ -60,13 +60,13 @@ loop-again c =
     let u = c.loop-at.invariant in
     let m = size_is c.before in (
       ⊎_elim
-          (λ w. rw w.5 (enlarged_same
-          (λ l. ⊎_elim (λ z. (omega (arith, z.0), z.1)) (λ z. (omega arith, rw z (omega (arith, w.0.taken)))))
+          (λ w. rw w.work-is (enlarged_same {named = λ l. Wide n a c.args.limit at l ⊎ (l ≡ at)} {named' = Wide n a c.args.limit (at + 1)}
+          (λ l y. elim y [ inl z ↦ (omega (arith, z.0), z.1) | inr z ↦ (omega arith, rw z (omega (arith, w.if-limit-size.true))) ])
           (λ l z. elim (ℕ_discrete l at) [ yes e ↦ inr e | no d ↦ inl (omega (arith, z.0), z.1) ])
-          (enlarged_on n (Wide n a c.args.limit at) a c.loop-at.work w.2.last.0 at u.0 w.2.ensures)))
-          (λ w. rw w.1 (enlarged_same
+          (enlarged_on n (Wide n a c.args.limit at) a c.loop-at.work w.set_region.new.work at u.0 w.set_region.ensures)))
+          (λ w. rw w.work-is (enlarged_same
           (λ l z. (omega (arith, z.0), z.1))
-          (λ l z. (elim (ℕ_discrete l at) [ yes e ↦ (let y : c.args.limit ≤ end_of n a (suc at) - end_of n a at = rw e at z.1 in absurd (omega (arith, w.0.left))) | no d ↦ omega (arith, z.0) ], z.1))
+          (λ l z. (elim (ℕ_discrete l at) [ yes e ↦ (let y : c.args.limit ≤ end_of n a (suc at) - end_of n a at = rw e at z.1 in absurd (omega (arith, w.if-limit-size.false))) | no d ↦ omega (arith, z.0) ], z.1))
           u.0))
           c.if-limit-size.branch-raw,
       omega (arith, (turn c.before.before).turn),

@@ -92,8 +92,8 @@ loop-again c =
     let st = c.requires.0.0 in
     let u = c.loop-s.invariant.0 in (
       ⊎_elim
-          (λ w. let g = named c.before w.0.taken in rw (w.5, w.6) (met_more st (λ q b. more-steps c q) u (met_labelled u.stage (to c.before.before.before.before.before.before.before) g.label g.group w.2.ensures)))
-          (λ w. rw (w.1, w.2) (met_more st (λ q b. more-steps c q) u (met_unlabelled u.stage (to c.before.before.before.before.before.before.before) (sym (label_is c.before) ∙ w.0.left))))
+          (λ w. let g = named c.before w.if-label-ne0.true in rw (w.work-is, w.end-is) (met_more st (λ q b. more-steps c.before.before.before.before.before.before.before q) u (met_labelled u.stage (to c.before.before.before.before.before.before.before) g.label g.group w.judge-end.ensures)))
+          (λ w. rw (w.work-is, w.end-is) (met_more st (λ q b. more-steps c.before.before.before.before.before.before.before q) u (met_unlabelled u.stage (to c.before.before.before.before.before.before.before) (sym (label_is c.before) ∙ w.if-label-ne0.false))))
           c.if-label-ne0.branch-raw,
       omega (arith, c.loop-s.invariant.1, c.if-s-steps.false, c.step_count-steps.ensures),
     )

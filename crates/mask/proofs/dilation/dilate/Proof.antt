@@ -10,7 +10,7 @@ count-rows-requires : tie.Need-count_rows-requires
 count-rows-requires c κs = search rules
 
 store-requires : tie.Need-store-requires
-store-requires c κs = let s = start c in omega (arith, room _ _ _ s.pre.0.2 s.pre.1.2)
+store-requires c κs = omega (arith, room _ _ _ c.requires.0.2 c.requires.1.2)
 
 same_length : tie.Need-shape_of-out
 same_length c = search rules

@@ -50,7 +50,7 @@ label-into-requires : tie.Need-label_into-count-requires
 label-into-requires c κs =
     let a = c.args in
     let f = fit c.before.before.before.before.before.before in (
-      (record { rows = omega (arith, f.0.high); cols = omega (arith, f.0.wide); count = search (inl, inr); planes = omega (arith, f.0.free, c.paint.kept.1.1.0) }, f.1),
+      (record { rows = omega (arith, f.0.high); cols = omega (arith, f.0.wide); count = search (inl, inr); planes = omega (arith, f.0.free, c.paint.auto.work) }, f.1),
       bits_small a.mask.now a.work.now c.paint.new.work (a.h * a.w) c.paint.ensures,
     )
 

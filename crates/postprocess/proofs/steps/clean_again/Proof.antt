@@ -1,7 +1,7 @@
 -- `postprocess::steps::clean_again` meets its contract, after an outline call and without one. Assumes nothing.
 use mathlib.Core.Path.{sym, ◌∙◌}
 use borrow.Author.Rules.{rules}
-use borrow.Author.Tests.{not_true, not_false}
+use borrow.Author.Tests.{not-true, not-false}
 use Rattle.rules.specs.Palette.{palette_of}
 use Rattle.postprocess.proofs.Switched.{cleans_after, uncleaned_after}
 use Rattle.postprocess.proofs.steps.clean_again.Statement.{statement}
@@ -11,13 +11,13 @@ returns : tie.Need-returns-then-not-asked
 returns c =
     let a = c.args in
     let f = a.facts in
-    uncleaned_after a.cells.now f.height f.width 1 (palette_of a.palette.now f.colours) a.config c.requires.0 (sym c.asked.ensures ∙ not_true _ c.if-not-asked.true)
+    uncleaned_after a.cells.now f.height f.width 1 (palette_of a.palette.now f.colours) a.config c.requires.0 (sym c.asked.ensures ∙ c.if-not-asked.true)
 
 returns-2 : tie.Need-returns
 returns-2 c =
     let a = c.args in
     let f = a.facts in
-    cleans_after a.cells.now f.height f.width 1 (palette_of a.palette.now f.colours) a.config (sym c.asked.ensures ∙ not_false _ c.if-not-asked.false) c.clean_if.ensures
+    cleans_after a.cells.now f.height f.width 1 (palette_of a.palette.now f.colours) a.config (sym c.asked.ensures ∙ c.if-not-asked.false) c.clean_if.ensures
 
 asked-requires : tie.Need-asked-requires
 asked-requires c κs = search rules

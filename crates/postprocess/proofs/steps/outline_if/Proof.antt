@@ -1,7 +1,7 @@
 -- `postprocess::steps::outline_if` meets its contract, with an outline and without. Assumes nothing.
 use mathlib.Core.Path.{sym, ◌∙◌}
 use borrow.Author.Rules.{rules}
-use borrow.Author.Tests.{not_true, not_false}
+use borrow.Author.Tests.{not-true, not-false}
 use Rattle.rules.specs.Palette.{palette_of}
 use Rattle.outline.proofs.Refusing.{room_plain}
 use Rattle.postprocess.proofs.Switched.{unlined, lines}
@@ -11,12 +11,12 @@ use Rattle.postprocess.proofs.steps.outline_if.Tie as tie
 returns : tie.Need-returns-then-not-asked
 returns c =
     let a = c.args in
-    unlined a.how (palette_of a.palette.now a.k) a.cells.now a.size.h a.size.w (room_plain _ c.requires.0).0 (sym c.asked.ensures ∙ not_true _ c.if-not-asked.true) c.plain.ensures
+    unlined a.how (palette_of a.palette.now a.k) a.cells.now a.size.h a.size.w (room_plain _ c.requires.0).0 (sym c.asked.ensures ∙ c.if-not-asked.true) c.plain.ensures
 
 returns-2 : tie.Need-returns
 returns-2 c =
     let a = c.args in
-    lines a.how (palette_of a.palette.now a.k) a.cells.now a.size.h a.size.w (sym c.asked.ensures ∙ not_false _ c.if-not-asked.false) c.outline_sheet.ensures
+    lines a.how (palette_of a.palette.now a.k) a.cells.now a.size.h a.size.w (sym c.asked.ensures ∙ c.if-not-asked.false) c.outline_sheet.ensures
 
 asked-requires : tie.Need-asked-requires
 asked-requires c κs = search rules

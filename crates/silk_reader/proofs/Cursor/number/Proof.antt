@@ -1,6 +1,6 @@
 -- `Cursor::number` meets its contract. Assumes nothing.
 use mathlib.Core.Path.{sym, ◌∙◌}
-use borrow.Author.Tests.{not_true, not_false}
+use borrow.Author.Tests.{not-true, not-false}
 use native.Mathlib.Omega.{arith}
 use Rattle.silk_reader.specs.Answers.{got_number}
 use Rattle.silk_reader.proofs.Scanning.{digits_inside, digits_proper, number_none, number_no, number_yes}
@@ -28,15 +28,15 @@ proper-requires c κs = tt
 
 returns-2 : tie.Need-returns-then-not-proper
 unfolding got_number
-returns-2 c = number_no _ _ _ c.digits_end-end.ensures (sym c.proper.ensures ∙ not_true _ c.if-not-proper.true)
+returns-2 c = number_no _ _ _ c.digits_end-end.ensures (sym c.proper.ensures ∙ c.if-not-proper.true)
 
 value-requires : tie.Need-value-requires
-value-requires c κs = digits_proper _ _ _ c.digits_end-end.ensures (sym c.proper.ensures ∙ not_false _ c.if-not-proper.false)
+value-requires c κs = digits_proper _ _ _ c.digits_end-end.ensures (sym c.proper.ensures ∙ c.if-not-proper.false)
 
 returns-3 : tie.Need-returns
 unfolding got_number
 returns-3 c =
-    rw c.value.ensures (number_yes _ _ _ c.digits_end-end.ensures (sym c.proper.ensures ∙ not_false _ c.if-not-proper.false))
+    rw c.value.ensures (number_yes _ _ _ c.digits_end-end.ensures (sym c.proper.ensures ∙ c.if-not-proper.false))
 
 pub number_spec : {M : Type 1} → statement M
 number_spec =

@@ -2,6 +2,7 @@
 use Prim.Native.Nat.{◌-◌}
 use native.Mathlib.Omega.{arith}
 use lib.IntN.{pos}
+use mir.Syntax.{w32}
 use mir.Facts.{to_z-of_z}
 use Rattle.silk_text.proofs.Laying.{Copied, copied_none, copied_more, copied_all}
 use Rattle.silk_text.proofs.sheet.copy_cells.Statement.{statement}
@@ -35,7 +36,7 @@ loop-less : tie.Need-loop-place-smaller invariant-loop decreases-loop
 loop-less c = omega arith
 
 loop-again : tie.Need-loop-place-preserved invariant-loop decreases-loop
-loop-again c = copied_more c.loop-place.invariant (pos 0) c.loop-place-test.true (omega arith) (omega arith) (omega arith) (to_z-of_z (record { sfits = c.c-1.given }))
+loop-again c = copied_more c.loop-place.invariant (pos 0) c.loop-place-test.true (omega arith) (omega arith) (omega arith) (to_z-of_z {w = w32} (record { sfits = c.c-1.given }))
 
 same_length : tie.Need-shape_of-to invariant-loop decreases-loop
 same_length c = c.loop-place.invariant.kept
