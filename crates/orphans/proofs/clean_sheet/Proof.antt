@@ -62,7 +62,7 @@ clean-planes-requires c κs =
 store-requires : tie.Need-store-requires
 store-requires c κs =
     let f = c.requires in (
-      whole_tile _ _ _ _ f.rows f.cols f.reads (rw (c.clean_planes-count.ensures.len, c.load.kept.1.0) f.planes),
+      whole_tile _ _ _ _ f.rows f.cols f.reads (rw (c.clean_planes-count.ensures.len, c.load.auto.work) f.planes),
       (λ p h. omega (arith, c.clean_planes-count.ensures.known.below p h, f.entries)),
     )
 
@@ -74,8 +74,8 @@ same-length-2 c = search rules
 
 returns-2 : tie.Need-returns
 returns-2 c =
-    let z = region c in
-    let e : pos (nat_abs (to_z w32 (of_z w32 z))) ≡ z = rw (back c) (pos-nat_abs z (not_negative_lem z (low c.before.before.before.before.before.before.before.before.before.before.before))) in
+    let z = region c.before.before.before.before.before.before.before.before.before.before.before.before in
+    let e : pos (nat_abs (to_z w32 (of_z w32 z))) ≡ z = rw (back c.before.before.before.before.before.before.before.before.before.before.before.before) (pos-nat_abs z (not_negative_lem z (low c.before.before.before.before.before.before.before.before.before.before.before))) in
     let r = all_cleaned c.requires c.args.max_passes c.args.limits.colour (nat_abs (to_z w32 (of_z w32 z))) e c.load.new.work c.clean_planes-count.new.work c.clean_planes-count.result (painted c.before.before.before.before.before.before.before.before.before) c.clean_planes-count.ensures in
     (r.0, c.store.ensures ∙ store_whole c.args.cells.now c.clean_planes-count.new.work c.args.size.h c.args.size.w c.requires.reads ∙ r.1)
 

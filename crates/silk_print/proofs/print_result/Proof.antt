@@ -13,7 +13,7 @@ lengths-fit-requires c κs = tt
 
 returns : tie.Need-returns-then-not-lengths_fit
 unfolding result_fits
-returns c = printed_no (sym c.lengths_fit.ensures ∙ not_true c.if-not-lengths_fit.true) _ _
+returns c = printed_no (sym c.lengths_fit.ensures ∙ c.if-not-lengths_fit.true) _ _
 
 put-result-requires : tie.Need-put_result-requires
 unfolding result_fits
