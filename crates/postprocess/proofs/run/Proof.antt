@@ -68,7 +68,7 @@ drawn : (c : tie.After-drawing-how) → c.drawing-how.result ≡ drawing_of (acc
 unfolding drawing_of
 drawn c =
     let x = accepted c.before.before.before.before.before.before.before.before.before.before.before.before.before.before.before.before.before.before in
-    c.drawing-how.ensures ∙ ap (λ (z : ℤ). record { outline = x.config.outline; allow_pad = pad_allowed x.config z; fixed_palette = x.fixed }) (margin_is c)
+    c.drawing-how.ensures ∙ ap (λ (z : ℤ). record { outline = x.config.outline; allow_pad = pad_allowed x.config z; fixed_palette = x.fixed }) (margin_is c.before.before.before.before.before.before.before.before.before.before.before.before.before.before.before.before.before.before.before)
 
 drew : (c : tie.After-outline_if-facts)
     → let x = accepted c.before.before.before.before.before.before.before.before.before.before.before.before.before.before.before.before.before.before.before.before.before.before in

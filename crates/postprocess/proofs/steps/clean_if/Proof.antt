@@ -23,7 +23,7 @@ back c = to_z-of_z {w = w32} {z = c.args.config.orphan_min_region} (record { sfi
 returns : tie.Need-returns-then-not-config
 returns c =
     let a = c.args in
-    uncleaned a.cells.now a.size.h a.size.w a.max_passes (palette_of a.palette.now a.k) (limits_of a.config) a.config.remove_orphans c.requires.0 c.if-not-config.true
+    uncleaned a.cells.now a.size.h a.size.w a.max_passes (palette_of a.palette.now a.k) (limits_of a.config) a.config.remove_orphans c.requires.0 (not-true _ c.if-not-config.true)
 
 returns-2 : tie.Need-returns
 unfolding limits_of
@@ -39,7 +39,7 @@ returns-2 c =
 clean-sheet-requires : tie.Need-clean_sheet-requires
 clean-sheet-requires c κs =
     let a = c.args in
-    subst (λ (z : ℤ). Fit a.cells.now a.size.h a.size.w a.palette.now a.k z (length a.work.now)) (sym (back c.before.before)) (c.requires.1 c.if-not-config.false)
+    subst (λ (z : ℤ). Fit a.cells.now a.size.h a.size.w a.palette.now a.k z (length a.work.now)) (sym (back c.before.before)) (c.requires.1 (not-false _ c.if-not-config.false))
 
 same_length : tie.Need-shape_of-cells
 same_length c = search rules
