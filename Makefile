@@ -14,18 +14,21 @@ CASES = 20000
 ROWS = 60
 SEED = 1
 COMPARE = target/cargo/release/compare
+SILK = crates/silk/out/silk
 LIB = target/staticlib/libsilk_c.a
 
 test:
 	@CC='$(CC)' sh tools/test.sh
 
 run:
-	@rt check silk
-	@sh tools/run_examples.sh target/bin/silk
+	@cd crates/silk && rt run <stdin >/dev/null
+	@sh tools/run_examples.sh $(SILK)
 
 lib: $(LIB)
 $(LIB): crates.txt $(shell find crates -name '*.rt' -o -name '*.antt')
-	@rt staticlib silk_c
+	@cd crates/silk_c_c && rt lib
+	@mkdir -p target/staticlib
+	@cp crates/silk_c_c/out/libsilk_c_c.a $(LIB)
 
 example: lib
 	@$(CC) $(CFLAGS) -I include examples/c/clean.c $(LIB) -o target/clean

@@ -1,11 +1,12 @@
 // Whether a call gave what is stored, list by list, and what is printed of that.
-ghost use Rattle.std.specs.Prelude.{◌≡◌, ◌+◌, ◌≤◌, min, ◌&&◌, length, if◌then◌else◌, ◌==◌, slice_index};
+ghost use Rattle.std.specs.Prelude.{◌≡◌, ◌+◌, ◌≤◌, min, ◌&&◌, length, if◌then◌else◌, ◌==◌, slice_index, IfOk};
 ghost use Rattle.replay.specs.Kinds.{same_byte, same_word, same_cell, same_double};
 ghost use Rattle.replay.specs.Comparisons.{answered_at, further};
 
 use crate::lists::{same_bytes, same_cells, same_doubles, same_words};
 use crate::stream::{After, Stored, number, past};
-use libc::STDOUT_FILENO;
+use std::io;
+use std::io::Write;
 
 // The place up to which a case was read, and whether all was the same so far.
 #[derive(Clone, Copy)]
@@ -83,34 +84,39 @@ pub fn case_end(numbers: &[u64], at: usize, count: usize) -> usize
     }
 }
 
-fn print_case(name: &[u8], case: u64) {
-    io::write_all(STDOUT_FILENO, name);
-    io::write_all(STDOUT_FILENO, b": case ");
-    io::print_decimal(STDOUT_FILENO, case);
-    io::write_all(STDOUT_FILENO, b" differs\n");
+fn print_case<W: Write>(out: &mut W, name: &[u8], case: u64) -> io::Result<()> {
+    out.write_all(name)?;
+    writeln!(out, ": case {case} differs")
 }
 
 // Prints a case that differs, or whose numbers are not just those that its entry takes. The answer is 1 for such a case, 0 for any other.
-pub fn report_case(name: &[u8], case: u64, v: Comparison, end: usize) -> u64
-    ensures value { result ≡ (if v.same && v.at == end then 0 else 1) }
-    ensures upper_bound { result ≤ 1 }
+pub fn report_case<W: Write>(
+    out: &mut W,
+    name: &[u8],
+    case: u64,
+    v: Comparison,
+    end: usize,
+) -> io::Result<u64>
+    ensures value { IfOk result (λ n. n ≡ (if v.same && v.at == end then 0 else 1)) }
+    ensures upper_bound { IfOk result (λ n. n ≤ 1) }
 {
     if v.same & (v.at == end) {
-        return 0;
+        return Ok(0);
     }
-    print_case(name, case);
-    1
+    print_case(out, name, case)?;
+    Ok(1)
 }
 
 // Prints how many cases a file has, and how many of them differ. The answer is whether none does.
-pub fn report_total(name: &[u8], cases: u64, differing: u64) -> bool
-    ensures { result ≡ (differing == 0) }
+pub fn report_total<W: Write>(
+    out: &mut W,
+    name: &[u8],
+    cases: u64,
+    differing: u64,
+) -> io::Result<bool>
+    ensures { IfOk result (λ none. none ≡ (differing == 0)) }
 {
-    io::write_all(STDOUT_FILENO, name);
-    io::write_all(STDOUT_FILENO, b": ");
-    io::print_decimal(STDOUT_FILENO, cases);
-    io::write_all(STDOUT_FILENO, b" cases, ");
-    io::print_decimal(STDOUT_FILENO, differing);
-    io::write_all(STDOUT_FILENO, b" differ\n");
-    differing == 0
+    out.write_all(name)?;
+    writeln!(out, ": {cases} cases, {differing} differ")?;
+    Ok(differing == 0)
 }

@@ -1,7 +1,12 @@
 // The numbers of a text in hex, and the lists among them.
-ghost use Rattle.std.specs.Prelude.{◌≡◌, ◌≤◌, min, length, slice_index};
+ghost use Rattle.std.specs.Prelude.{◌≡◌, ◌≤◌, min, length, slice_index, take};
+ghost use Rattle.std.specs.Io.KnownBytes.{Consumes};
 ghost use Rattle.replay.specs.Lists.{beyond, stored_at, work_at, after_at, element, element_after};
 ghost use Rattle.replay.specs.Texts.{digit_of, one_byte, first_bytes};
+
+use reading::{Filled, read_full};
+use std::io;
+use std::io::Read;
 
 // Room for the longest text that is stored.
 pub const TEXT: usize = 131072;
@@ -92,26 +97,34 @@ fn parsed(text: &[u8], n: usize, numbers: &mut [u64]) -> usize
     r.count
 }
 
-// What was read of a file: how many bytes of it stand at the front of the text, and how many numbers were put.
-#[derive(Clone, Copy)]
+// What was read of a text: how many bytes of it stand at the front of a buffer, how many numbers were put, and whether it was read to its end or the
+// buffer is full, or which error came before that.
+#[derive(Drop)]
 pub struct Loaded {
     pub bytes: usize,
     pub count: usize,
+    pub whole: io::Result<()>,
 }
 
-// Reads a file to the front of a text, and puts the numbers of what was read over the front of a list. A file that is missing has none.
-// Which bytes are read, and how many, no contract of the system tells.
-pub fn read(name: &[u8], text: &mut [u8], numbers: &mut [u64]) -> Loaded
+// Reads to the front of a text, and puts the numbers of what was read over the front of a list.
+// A reader that tells which bytes it has left loses those that stand at the front of the text.
+pub fn read<R: Read>(from: &mut R, text: &mut [u8], numbers: &mut [u64]) -> Loaded
     ensures bytes_in_bounds { result.bytes ≤ length text.new }
     ensures count_value { result.count ≡ (first_bytes numbers.old text.new result.bytes).reading.count }
     ensures numbers_after { numbers.new ≡ (first_bytes numbers.old text.new result.bytes).list }
     ensures count_in_bounds { result.count ≤ length numbers.new }
+    ensures bytes_read { Consumes (R.remaining from.old) (R.remaining from.new) (take result.bytes text.new) }
 {
-    let file = os::open_read(name);
-    let bytes = io::read_full(file, text);
-    libc::close(file);
+    let Filled {
+        count: bytes,
+        whole,
+    } = read_full(from, text);
     let count = parsed(text, bytes, numbers);
-    Loaded { bytes, count }
+    Loaded {
+        bytes,
+        count,
+        whole,
+    }
 }
 
 // The number at a place, 0 past the end.

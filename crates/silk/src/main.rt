@@ -1,11 +1,18 @@
 // The program `silk`: reads the text of a sheet from standard input, and writes what comes of it to standard output.
 #![tactic(auto)]
 
-use libc::{STDIN_FILENO, STDOUT_FILENO};
-use silk_reply::{ROOM, TEXT};
+use silk_reply::{ROOM, Served, TEXT, serve};
+use std::io;
 
-fn main() {
+fn main(rt: HostRuntime) -> io::Result<()> {
     let mut text = [0u8; TEXT];
     let mut out = [0u8; ROOM];
-    silk_reply::serve(STDIN_FILENO, STDOUT_FILENO, &mut text, &mut out);
+    let mut input = rt.stdin();
+    let mut output = rt.stdout();
+    let Served {
+        read: _,
+        put: _,
+        written,
+    } = serve(&mut input, &mut output, &mut text, &mut out);
+    written
 }

@@ -20,8 +20,7 @@ use c_answers::{
 use rules::{Outline, PostConfig};
 
 // Colours of sRGB as colours of CIELAB.
-#[unsafe(no_mangle)]
-pub extern "C" fn silk_rgb8_to_lab(rgb: &[u8], out: &mut [f64]) -> u32
+pub fn silk_rgb8_to_lab(rgb: &[u8], out: &mut [f64]) -> u32
     ensures value { result ≡ status (done (filling (refusal (rgb8_to_lab_rows rgb.now (length out.old))))) }
     ensures out_after { out.new ≡ rgb8_to_lab_out rgb.now out.old }
 {
@@ -29,8 +28,7 @@ pub extern "C" fn silk_rgb8_to_lab(rgb: &[u8], out: &mut [f64]) -> u32
 }
 
 // Colours of CIELAB as colours of sRGB.
-#[unsafe(no_mangle)]
-pub extern "C" fn silk_lab_to_rgb8(lab: &[f64], out: &mut [u8]) -> u32
+pub fn silk_lab_to_rgb8(lab: &[f64], out: &mut [u8]) -> u32
     ensures value { result ≡ status (done (filling (refusal (lab_to_rgb8_rows lab.now (length out.old))))) }
     ensures out_after { out.new ≡ lab_to_rgb8_out lab.now out.old }
 {
@@ -38,8 +36,7 @@ pub extern "C" fn silk_lab_to_rgb8(lab: &[f64], out: &mut [u8]) -> u32
 }
 
 // The distances of the colours of two lists, pair by pair.
-#[unsafe(no_mangle)]
-pub extern "C" fn silk_delta_e(a: &[f64], b: &[f64], out: &mut [f64]) -> u32
+pub fn silk_delta_e(a: &[f64], b: &[f64], out: &mut [f64]) -> u32
     ensures value { result ≡ status (done (filling (refusal (delta_e_rows a.now b.now (length out.old))))) }
     ensures out_after { out.new ≡ delta_e_out a.now b.now out.old }
 {
@@ -47,8 +44,7 @@ pub extern "C" fn silk_delta_e(a: &[f64], b: &[f64], out: &mut [f64]) -> u32
 }
 
 // The index of the nearest palette entry for each pixel.
-#[unsafe(no_mangle)]
-pub extern "C" fn silk_nearest_index(pixels: &[f64], palette: &[f64], out: &mut [i32]) -> u32
+pub fn silk_nearest_index(pixels: &[f64], palette: &[f64], out: &mut [i32]) -> u32
     ensures value { result ≡ status (done (filling (refusal (nearest_rows pixels.now palette.now (length out.old))))) }
     ensures out_after { out.new ≡ nearest_out pixels.now palette.now out.old }
 {
@@ -56,8 +52,7 @@ pub extern "C" fn silk_nearest_index(pixels: &[f64], palette: &[f64], out: &mut 
 }
 
 // The distances of all colours of a palette from each other, row after row.
-#[unsafe(no_mangle)]
-pub extern "C" fn silk_palette_distance_matrix(palette: &[f64], out: &mut [f64]) -> u32
+pub fn silk_palette_distance_matrix(palette: &[f64], out: &mut [f64]) -> u32
     ensures value { result ≡ status (done (filling (refusal (matrix_rows palette.now (length out.old))))) }
     ensures out_after { out.new ≡ matrix_out palette.now out.old }
 {
@@ -65,8 +60,7 @@ pub extern "C" fn silk_palette_distance_matrix(palette: &[f64], out: &mut [f64])
 }
 
 // The colour that a text names, as three bytes.
-#[unsafe(no_mangle)]
-pub extern "C" fn silk_hex_to_rgb8(text: &[u8], out: &mut [u8]) -> u32
+pub fn silk_hex_to_rgb8(text: &[u8], out: &mut [u8]) -> u32
     ensures value { result ≡ status (unless (refusal (row 2 (ltb (length out.old) 3) ∷ [])) refused (coloured (hex_to_rgb8 text.now))) }
     ensures out_after { out.new ≡ received (unless (refusal (row 2 (ltb (length out.old) 3) ∷ [])) refused (coloured (hex_to_rgb8 text.now))) out.old }
 {
@@ -78,8 +72,7 @@ pub extern "C" fn silk_hex_to_rgb8(text: &[u8], out: &mut [u8]) -> u32
 }
 
 // The labels of a sheet's regions; one fact: their number.
-#[unsafe(no_mangle)]
-pub extern "C" fn silk_label_regions(
+pub fn silk_label_regions(
     cells: &[i32],
     h: usize,
     w: usize,
@@ -100,8 +93,7 @@ pub extern "C" fn silk_label_regions(
 }
 
 // The labels of a mask's regions; one fact: their number.
-#[unsafe(no_mangle)]
-pub extern "C" fn silk_label4(
+pub fn silk_label4(
     mask: &[u8],
     h: usize,
     w: usize,
@@ -122,8 +114,7 @@ pub extern "C" fn silk_label4(
 }
 
 // A mask dilated by k rows and columns.
-#[unsafe(no_mangle)]
-pub extern "C" fn silk_binary_dilation8(
+pub fn silk_binary_dilation8(
     mask: &[u8],
     h: usize,
     w: usize,
@@ -138,8 +129,7 @@ pub extern "C" fn silk_binary_dilation8(
 }
 
 // Cleaning over the lent cells; one fact: the count of repainting passes.
-#[unsafe(no_mangle)]
-pub extern "C" fn silk_remove_orphans(
+pub fn silk_remove_orphans(
     cells: &mut [i32],
     h: usize,
     w: usize,
@@ -180,8 +170,7 @@ pub extern "C" fn silk_remove_orphans(
 }
 
 // Corners trimmed over the lent cells.
-#[unsafe(no_mangle)]
-pub extern "C" fn silk_fix_jaggies(cells: &mut [i32], h: usize, w: usize, work: &mut [u32]) -> u32
+pub fn silk_fix_jaggies(cells: &mut [i32], h: usize, w: usize, work: &mut [u32]) -> u32
     ensures { (let call : JaggiesCall = record { lent = lent_sheet cells.old h w (length work.old) } in
         (result ≡ status (done (jaggies_answer call))) × (cells.new ≡ jaggies_cells call)) }
 {
@@ -209,8 +198,7 @@ fn is_set(b: u8) -> bool
 }
 
 // An outline drawn over the lent cells and palette; five facts: height, width, colours, index (one more, 0 for none), clipped.
-#[unsafe(no_mangle)]
-pub extern "C" fn silk_add_outline(
+pub fn silk_add_outline(
     cells: &mut [i32],
     h: usize,
     w: usize,
@@ -226,16 +214,16 @@ pub extern "C" fn silk_add_outline(
     work: &mut [u32],
     facts: &mut [u32],
 ) -> u32
-    ensures* { λ n. ⌜ (let call : OutlineCall = record {
+    ensures { (let call : OutlineCall = record {
       lent = lent_sheet cells.old h w (length work.old);
       palette = palette_of palette.old k;
       how = record { outline = outline_of kind darken r g b; allow_pad = is_set allow_pad; fixed_palette = is_set fixed_palette };
     } in
         let answer : CAnswer = after_facts_rows h w (length facts.old) 5 refused (outlined (outline_answer call)) in
-        (n ≡ status answer)
+        (result ≡ status answer)
         × (cells.new ≡ after_facts_rows h w (length facts.old) 5 (λ n. cells.old) (outline_cells call))
         × (palette.new ≡ after_facts_rows h w (length facts.old) 5 (λ n. palette.old) (outline_palette call))
-        × (facts.new ≡ received answer facts.old)) ⌝ }
+        × (facts.new ≡ received answer facts.old)) }
 {
     if let Filling::Refused(n) = facts_rows(h, w, facts.len(), 5) {
         return n as u32;
@@ -248,8 +236,7 @@ pub extern "C" fn silk_add_outline(
 }
 
 // A palette's a and b multiplied by beta.
-#[unsafe(no_mangle)]
-pub extern "C" fn silk_apply_saturation(palette: &mut [f64], k: usize, beta: f64) -> u32
+pub fn silk_apply_saturation(palette: &mut [f64], k: usize, beta: f64) -> u32
     ensures value { result ≡ status (done (saturation_answer (palette_of palette.old k) beta)) }
     ensures palette_after { palette.new ≡ saturation_palette (palette_of palette.old k) beta }
 {
@@ -287,8 +274,7 @@ fn config_of(
 }
 
 // All steps over the lent cells and palette; seven facts: those of an outline, and the passes of both cleanings.
-#[unsafe(no_mangle)]
-pub extern "C" fn silk_run(
+pub fn silk_run(
     cells: &mut [i32],
     h: usize,
     w: usize,
@@ -311,7 +297,7 @@ pub extern "C" fn silk_run(
     work: &mut [u32],
     facts: &mut [u32],
 ) -> u32
-    ensures* { λ n. ⌜ (let call : RunCall = record {
+    ensures { (let call : RunCall = record {
       lent = lent_sheet cells.old h w (length work.old);
       palette = palette_of palette.old k;
       config = config_of (beta_of kind beta) orphans region delta jaggies (outline_of kind darken r g b) tileset;
@@ -320,10 +306,10 @@ pub extern "C" fn silk_run(
       margin = margin;
     } in
         let answer : CAnswer = after_facts_rows h w (length facts.old) 7 refused (processed (run_answer call)) in
-        (n ≡ status answer)
+        (result ≡ status answer)
         × (cells.new ≡ after_facts_rows h w (length facts.old) 7 (λ n. cells.old) (run_cells call))
         × (palette.new ≡ after_facts_rows h w (length facts.old) 7 (λ n. palette.old) (run_palette call))
-        × (facts.new ≡ received answer facts.old)) ⌝ }
+        × (facts.new ≡ received answer facts.old)) }
 {
     if let Filling::Refused(n) = facts_rows(h, w, facts.len(), 7) {
         return n as u32;

@@ -1,16 +1,20 @@
 // What the program `silk` does: it reads a text, runs its sheet, and writes what comes of it.
 #![tactic(auto)]
 
-ghost use Rattle.std.specs.Prelude.{◌≡◌, length, take};
+ghost use Rattle.std.specs.Prelude.{◌≡◌, length, take, OnOk};
+ghost use Rattle.std.specs.Io.KnownBytes.{Appends, Consumes};
 ghost use Rattle.silk_text.specs.Answers.{laid};
 ghost use Rattle.silk_print.specs.Print.{refusal_text};
 ghost use Rattle.silk_reply.specs.Reply.{call_of, sheet_text, silk_text, Ran, Front, counted};
 
 use postprocess::run;
+use reading::{Filled, read_full};
 use rules::Processing;
 use silk_print::{Printed, print_refusal, print_result};
 use silk_reader::head::Head;
 use silk_text::sheet::{Parsed, read};
+use std::io;
+use std::io::{Read, Write};
 
 // One byte more than a text may have.
 pub const TEXT: usize = 65537;
@@ -92,25 +96,36 @@ pub fn respond(text: &[u8], out: &mut [u8; ROOM]) -> usize
     }
 }
 
-// What `serve` did: how many bytes it read to the front of the text, how many of the answer it handed on, and whether all of these were written.
-#[derive(Clone, Copy)]
+// What `serve` did: how many bytes it read to the front of the text, how many of the answer it handed on, and whether the text was read to its end
+// and all of these were written, or which error came before that.
+#[derive(Drop)]
 pub struct Served {
     pub read: usize,
     pub put: usize,
-    pub written: bool,
+    pub written: io::Result<()>,
 }
 
-// Reads a text from one file, and writes what comes of it to another.
-// What the contracts of `io` leave open is left open here: which bytes are read into the text and how many, and whether all was written.
-pub fn serve(from: i32, to: i32, text: &mut [u8; TEXT], out: &mut [u8; ROOM]) -> Served
+// Reads a text, and writes what comes of it. Where reading fails, nothing is written.
+// A reader that tells which bytes it has left loses those that stand at the front of the text, and a writer that tells what it holds gains the answer.
+pub fn serve<R: Read, W: Write>(
+    from: &mut R,
+    to: &mut W,
+    text: &mut [u8; TEXT],
+    out: &mut [u8; ROOM],
+) -> Served
     ensures put_value { result.put ≡ length (silk_text (take result.read text.new)) }
     ensures out_after { out.new ≡ laid 0 (silk_text (take result.read text.new)) out.old }
+    ensures bytes_read { Consumes (R.remaining from.old) (R.remaining from.new) (take result.read text.new) }
+    ensures bytes_written { OnOk result.written (Appends (W.contents to.old) (W.contents to.new) (silk_text (take result.read text.new))) }
 {
-    let n = io::read_full(from, text);
+    let Filled { count: n, whole } = read_full(from, text);
     let input: &[u8] = text;
     let count = respond(&input[..n], out);
     let output: &[u8] = out;
-    let written = io::write_all(to, &output[..count]);
+    let written = match whole {
+        Ok(()) => to.write_all(&output[..count]),
+        Err(e) => Err(e),
+    };
     Served {
         read: n,
         put: count,

@@ -5,7 +5,10 @@ mod colours;
 mod regions;
 mod sheets;
 
-use replay::Comparison;
+use replay::{Comparison, Loaded};
+use std::io::Write;
+use std::rt::Files;
+use std::{fs, io};
 
 // A case of the entry with this number.
 fn case(entry: u64, numbers: &[u64], at: usize) -> Comparison {
@@ -28,37 +31,49 @@ fn case(entry: u64, numbers: &[u64], at: usize) -> Comparison {
 }
 
 // Replays all cases of a file. The answer is whether none differs.
-fn replayed(entry: u64, name: &[u8]) -> bool {
+fn replayed<F: Files, W: Write>(
+    files: &F,
+    out: &mut W,
+    entry: u64,
+    name: &str,
+) -> io::Result<bool> {
     let mut text = [0u8; replay::TEXT];
     let mut numbers = [0u64; 32768];
-    let loaded = replay::read(name, &mut text, &mut numbers);
-    let count = loaded.count;
+    let mut file = fs::open(files, name)?;
+    let Loaded {
+        bytes: _,
+        count,
+        whole,
+    } = replay::read(&mut file, &mut text, &mut numbers);
+    whole?;
     let mut cases: u64 = 0;
     let mut differing: u64 = 0;
     let mut at = 0;
     while at < count {
         let end = replay::case_end(&numbers, at, count);
-        let differs = replay::report_case(name, cases, case(entry, &numbers, at + 1), end);
-        differing += differs;
+        let found = case(entry, &numbers, at + 1);
+        differing += replay::report_case(out, name.as_bytes(), cases, found, end)?;
         cases += 1;
         at = end;
     }
-    replay::report_total(name, cases, differing)
+    replay::report_total(out, name.as_bytes(), cases, differing)
 }
 
-fn main() {
-    replayed(0, b"rgb8_to_lab.txt");
-    replayed(1, b"lab_to_rgb8.txt");
-    replayed(2, b"delta_e.txt");
-    replayed(3, b"nearest_index.txt");
-    replayed(4, b"palette_distance_matrix.txt");
-    replayed(5, b"hex_to_rgb8.txt");
-    replayed(6, b"label_regions.txt");
-    replayed(7, b"label4.txt");
-    replayed(8, b"binary_dilation8.txt");
-    replayed(9, b"remove_orphans.txt");
-    replayed(10, b"fix_jaggies.txt");
-    replayed(11, b"add_outline.txt");
-    replayed(12, b"apply_saturation.txt");
-    replayed(13, b"run.txt");
+fn main(rt: HostRuntime) -> io::Result<()> {
+    let mut out = rt.stdout();
+    replayed(&rt, &mut out, 0, "rgb8_to_lab.txt")?;
+    replayed(&rt, &mut out, 1, "lab_to_rgb8.txt")?;
+    replayed(&rt, &mut out, 2, "delta_e.txt")?;
+    replayed(&rt, &mut out, 3, "nearest_index.txt")?;
+    replayed(&rt, &mut out, 4, "palette_distance_matrix.txt")?;
+    replayed(&rt, &mut out, 5, "hex_to_rgb8.txt")?;
+    replayed(&rt, &mut out, 6, "label_regions.txt")?;
+    replayed(&rt, &mut out, 7, "label4.txt")?;
+    replayed(&rt, &mut out, 8, "binary_dilation8.txt")?;
+    replayed(&rt, &mut out, 9, "remove_orphans.txt")?;
+    replayed(&rt, &mut out, 10, "fix_jaggies.txt")?;
+    replayed(&rt, &mut out, 11, "add_outline.txt")?;
+    replayed(&rt, &mut out, 12, "apply_saturation.txt")?;
+    replayed(&rt, &mut out, 13, "run.txt")?;
+    Ok(())
 }

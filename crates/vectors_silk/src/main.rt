@@ -2,13 +2,14 @@
 // A case is three lines: its name, the text, and the answer. In a line \n stands for byte 10, \xHH for the byte of these hex digits, and <C*NNNNNN> for so many bytes C.
 #![tactic(auto)]
 
-ghost use Rattle.std.specs.Prelude.{◌+◌, ◌≤◌, ◌<◌, length};
-ghost use Rattle.io.specs.Counts.{IsPrefixLen};
+ghost use Rattle.std.specs.Prelude.{◌+◌, ◌≤◌, ◌<◌, length, IfOk};
 
-use check::same;
-use libc::STDOUT_FILENO;
+use reading::{Filled, read_full};
 use replay::stream::least;
-use silk_reply::{ROOM, TEXT, serve};
+use silk_reply::{ROOM, Served, TEXT, serve};
+use std::io::Write;
+use std::rt::Files;
+use std::{fs, io};
 
 // Room for the file.
 const CASES: usize = 262144;
@@ -128,7 +129,7 @@ fn put_run(buffer: &mut [u8], from: usize, byte: u8, many: usize) -> usize
 fn line(cases: &[u8; CASES], from: usize, buffer: &mut [u8]) -> Read
     requires { from ≤ 1000000 }
     ensures from_lt_next { (from < result.next) × (result.next ≤ from + 262155) }
-    ensures prefix_len { IsPrefixLen result.len buffer.new }
+    ensures in_bounds { result.len ≤ length buffer.new }
 {
     let mut at = from;
     let mut len = 0;
@@ -141,34 +142,46 @@ fn line(cases: &[u8; CASES], from: usize, buffer: &mut [u8]) -> Read
 }
 
 // Whether the program's work gives this answer to a text. Both go by way of files.
-fn gives(text: &[u8], answer: &[u8]) -> bool {
+fn gives<F: Files>(files: &F, text: &[u8], answer: &[u8]) -> io::Result<bool> {
     let mut got = [0u8; LINE];
     let mut read = [0u8; TEXT];
     let mut out = [0u8; ROOM];
-    let file = os::open_overwrite(b"text");
-    io::write_all(file, text);
-    libc::close(file);
-    let from = os::open_read(b"text");
-    let to = os::open_overwrite(b"answer");
-    serve(from, to, &mut read, &mut out);
-    libc::close(from);
-    libc::close(to);
-    let back = os::open_read(b"answer");
-    let n = io::read_full(back, &mut got);
-    libc::close(back);
-    same(&got[..n], answer)
+    fs::write(files, "text", text)?;
+    serve_files(files, &mut read, &mut out)?;
+    let mut back = fs::open(files, "answer")?;
+    let Filled { count, whole } = read_full(&mut back, &mut got);
+    whole?;
+    Ok(&got[..count] == answer)
+}
+
+// The program's work from the one file to the other.
+fn serve_files<F: Files>(files: &F, read: &mut [u8; TEXT], out: &mut [u8; ROOM]) -> io::Result<()> {
+    let mut from = fs::open(files, "text")?;
+    let mut to = fs::create(files, "answer")?;
+    let Served {
+        read: _,
+        put: _,
+        written,
+    } = serve(&mut from, &mut to, read, out);
+    written
 }
 
 // Prints the name of a case whose answer differs. The answer is 1 for such a case, 0 for any other.
-fn told(name: &[u8], text: &[u8], answer: &[u8]) -> u64
-    ensures { result ≤ 1 }
+fn told<F: Files, W: Write>(
+    files: &F,
+    to: &mut W,
+    name: &[u8],
+    text: &[u8],
+    answer: &[u8],
+) -> io::Result<u64>
+    ensures { IfOk result (λ n. n ≤ 1) }
 {
-    if gives(text, answer) {
-        return 0;
+    if gives(files, text, answer)? {
+        return Ok(0);
     }
-    io::write_all(STDOUT_FILENO, name);
-    io::write_all(STDOUT_FILENO, b" differs\n");
-    1
+    to.write_all(name)?;
+    to.write_all(b" differs\n")?;
+    Ok(1)
 }
 
 // A case that was replayed: the place after it, and 1 if its answer differs.
@@ -179,9 +192,14 @@ struct Replayed {
 }
 
 // Replays the case at a place.
-fn case(cases: &[u8; CASES], at: usize) -> Replayed
+fn case<F: Files, W: Write>(
+    files: &F,
+    to: &mut W,
+    cases: &[u8; CASES],
+    at: usize,
+) -> io::Result<Replayed>
     requires { at ≤ 262144 }
-    ensures { (at < result.next) × (result.differs ≤ 1) }
+    ensures { IfOk result (λ c. (at < c.next) × (c.differs ≤ 1)) }
 {
     let mut name = [0u8; LINE];
     let mut text = [0u8; LINE];
@@ -192,36 +210,47 @@ fn case(cases: &[u8; CASES], at: usize) -> Replayed
     let name_end = first.len;
     let text_end = second.len;
     let answer_end = third.len;
-    let differs = told(&name[..name_end], &text[..text_end], &answer[..answer_end]);
-    Replayed {
+    let differs = told(
+        files,
+        to,
+        &name[..name_end],
+        &text[..text_end],
+        &answer[..answer_end],
+    )?;
+    Ok(Replayed {
         next: third.next,
         differs,
-    }
+    })
 }
 
 // Replays the cases that the first bytes of the file have. The answer is whether none differs.
-fn replay_all(cases: &[u8; CASES], count: usize) -> bool
+fn replay_all<F: Files, W: Write>(
+    files: &F,
+    to: &mut W,
+    cases: &[u8; CASES],
+    count: usize,
+) -> io::Result<bool>
     requires { count ≤ 262144 }
 {
     let mut number: u64 = 0;
     let mut differing: u64 = 0;
     let mut at = 0;
     while at < count {
-        let c = case(cases, at);
+        let c = case(files, to, cases, at)?;
         differing += c.differs;
         number += 1;
         at = c.next;
     }
-    replay::report_total(b"silk_cases.txt", number, differing)
+    replay::report_total(to, b"silk_cases.txt", number, differing)
 }
 
 // Replays the file of cases.
-fn main() {
+fn main(rt: HostRuntime) -> io::Result<()> {
     let mut cases = [0u8; CASES];
-    let file = os::open_read(b"silk_cases.txt");
-    let count = io::read_full(file, &mut cases);
-    libc::close(file);
-    if count <= CASES {
-        replay_all(&cases, count);
-    }
+    let mut file = fs::open(&rt, "silk_cases.txt")?;
+    let Filled { count, whole } = read_full(&mut file, &mut cases);
+    whole?;
+    let mut out = rt.stdout();
+    replay_all(&rt, &mut out, &cases, count)?;
+    Ok(())
 }

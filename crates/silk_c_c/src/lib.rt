@@ -1,0 +1,288 @@
+// The static library for C: each export calls the function of silk_c that has its name, and promises the same. Declared in include/silk.h.
+#![tactic(auto)]
+
+ghost use Rattle.std.specs.Prelude.{◌≡◌, [], ◌∷◌, ltb, length};
+ghost use Rattle.base.specs.Refusals.{row, refusal, unless, filling};
+ghost use Rattle.color_lists.specs.Entries.{rgb8_to_lab_rows, rgb8_to_lab_out, lab_to_rgb8_rows, lab_to_rgb8_out, delta_e_rows, delta_e_out, matrix_rows, matrix_out, nearest_rows, nearest_out};
+ghost use Rattle.hex_colour.specs.Hex.{hex_to_rgb8};
+ghost use Rattle.rules.specs.Palette.{palette_of};
+ghost use Rattle.rules.specs.Masks.{is_set, regions_answer, regions_labels, mask_answer, mask_labels, dilation_answer, dilation_out};
+ghost use Rattle.rules.specs.Entries.{orphans_answer, orphans_cells, jaggies_answer, jaggies_cells, outline_answer, outline_cells, outline_palette, saturation_answer, saturation_palette, run_answer, run_cells, run_palette};
+ghost use Rattle.rules.specs.Calls.{limits_at, OrphansCall, JaggiesCall, OutlineCall, RunCall};
+ghost use Rattle.rules.specs.Sheet.{lent_sheet};
+ghost use Rattle.silk_c.specs.Arguments.{outline_of, beta_of, config_of};
+ghost use Rattle.c_answers.specs.Outcomes.{CAnswer, refused, status, received, after_facts_rows, done, labelled, cleaned, outlined, processed, coloured};
+
+// Colours of sRGB as colours of CIELAB.
+#[unsafe(no_mangle)]
+pub extern "C" fn silk_rgb8_to_lab(rgb: &[u8], out: &mut [f64]) -> u32
+    ensures value { result ≡ status (done (filling (refusal (rgb8_to_lab_rows rgb.now (length out.old))))) }
+    ensures out_after { out.new ≡ rgb8_to_lab_out rgb.now out.old }
+{
+    silk_c::silk_rgb8_to_lab(rgb, out)
+}
+
+// Colours of CIELAB as colours of sRGB.
+#[unsafe(no_mangle)]
+pub extern "C" fn silk_lab_to_rgb8(lab: &[f64], out: &mut [u8]) -> u32
+    ensures value { result ≡ status (done (filling (refusal (lab_to_rgb8_rows lab.now (length out.old))))) }
+    ensures out_after { out.new ≡ lab_to_rgb8_out lab.now out.old }
+{
+    silk_c::silk_lab_to_rgb8(lab, out)
+}
+
+// The distances of the colours of two lists, pair by pair.
+#[unsafe(no_mangle)]
+pub extern "C" fn silk_delta_e(a: &[f64], b: &[f64], out: &mut [f64]) -> u32
+    ensures value { result ≡ status (done (filling (refusal (delta_e_rows a.now b.now (length out.old))))) }
+    ensures out_after { out.new ≡ delta_e_out a.now b.now out.old }
+{
+    silk_c::silk_delta_e(a, b, out)
+}
+
+// The index of the nearest palette entry for each pixel.
+#[unsafe(no_mangle)]
+pub extern "C" fn silk_nearest_index(pixels: &[f64], palette: &[f64], out: &mut [i32]) -> u32
+    ensures value { result ≡ status (done (filling (refusal (nearest_rows pixels.now palette.now (length out.old))))) }
+    ensures out_after { out.new ≡ nearest_out pixels.now palette.now out.old }
+{
+    silk_c::silk_nearest_index(pixels, palette, out)
+}
+
+// The distances of all colours of a palette from each other, row after row.
+#[unsafe(no_mangle)]
+pub extern "C" fn silk_palette_distance_matrix(palette: &[f64], out: &mut [f64]) -> u32
+    ensures value { result ≡ status (done (filling (refusal (matrix_rows palette.now (length out.old))))) }
+    ensures out_after { out.new ≡ matrix_out palette.now out.old }
+{
+    silk_c::silk_palette_distance_matrix(palette, out)
+}
+
+// The colour that a text names, as three bytes.
+#[unsafe(no_mangle)]
+pub extern "C" fn silk_hex_to_rgb8(text: &[u8], out: &mut [u8]) -> u32
+    ensures value { result ≡ status (unless (refusal (row 2 (ltb (length out.old) 3) ∷ [])) refused (coloured (hex_to_rgb8 text.now))) }
+    ensures out_after { out.new ≡ received (unless (refusal (row 2 (ltb (length out.old) 3) ∷ [])) refused (coloured (hex_to_rgb8 text.now))) out.old }
+{
+    silk_c::silk_hex_to_rgb8(text, out)
+}
+
+// The labels of a sheet's regions; one fact: their number.
+#[unsafe(no_mangle)]
+pub extern "C" fn silk_label_regions(
+    cells: &[i32],
+    h: usize,
+    w: usize,
+    labels: &mut [u32],
+    work: &mut [u32],
+    facts: &mut [u32],
+) -> u32
+    ensures { (let answer : CAnswer = after_facts_rows h w (length facts.old) 1 refused (labelled (regions_answer cells.now h w labels.old (length work.old))) in
+        (result ≡ status answer)
+        × (labels.new ≡ after_facts_rows h w (length facts.old) 1 (λ n. labels.old) (regions_labels cells.now h w labels.old (length work.old)))
+        × (facts.new ≡ received answer facts.old)) }
+{
+    silk_c::silk_label_regions(cells, h, w, labels, work, facts)
+}
+
+// The labels of a mask's regions; one fact: their number.
+#[unsafe(no_mangle)]
+pub extern "C" fn silk_label4(
+    mask: &[u8],
+    h: usize,
+    w: usize,
+    labels: &mut [u32],
+    work: &mut [u32],
+    facts: &mut [u32],
+) -> u32
+    ensures { (let answer : CAnswer = after_facts_rows h w (length facts.old) 1 refused (labelled (mask_answer mask.now h w labels.old (length work.old))) in
+        (result ≡ status answer)
+        × (labels.new ≡ after_facts_rows h w (length facts.old) 1 (λ n. labels.old) (mask_labels mask.now h w labels.old (length work.old)))
+        × (facts.new ≡ received answer facts.old)) }
+{
+    silk_c::silk_label4(mask, h, w, labels, work, facts)
+}
+
+// A mask dilated by k rows and columns.
+#[unsafe(no_mangle)]
+pub extern "C" fn silk_binary_dilation8(
+    mask: &[u8],
+    h: usize,
+    w: usize,
+    k: u32,
+    out: &mut [u8],
+    work: &mut [u32],
+) -> u32
+    ensures value { result ≡ status (done (dilation_answer mask.now h w k out.old (length work.old))) }
+    ensures out_after { out.new ≡ dilation_out mask.now h w k out.old (length work.old) }
+{
+    silk_c::silk_binary_dilation8(mask, h, w, k, out, work)
+}
+
+// Cleaning over the lent cells; one fact: the count of repainting passes.
+#[unsafe(no_mangle)]
+pub extern "C" fn silk_remove_orphans(
+    cells: &mut [i32],
+    h: usize,
+    w: usize,
+    palette: &[f64],
+    k: usize,
+    orphan_min_region: i32,
+    max_passes: u32,
+    orphan_max_delta: f64,
+    work: &mut [u32],
+    facts: &mut [u32],
+) -> u32
+    ensures { (let call : OrphansCall = record {
+      lent = lent_sheet cells.old h w (length work.old);
+      palette = palette_of palette.now k;
+      limits = limits_at orphan_min_region orphan_max_delta;
+      passes = max_passes;
+    } in
+        let answer : CAnswer = after_facts_rows h w (length facts.old) 1 refused (cleaned (orphans_answer call)) in
+        (result ≡ status answer)
+        × (cells.new ≡ after_facts_rows h w (length facts.old) 1 (λ n. cells.old) (orphans_cells call))
+        × (facts.new ≡ received answer facts.old)) }
+{
+    silk_c::silk_remove_orphans(
+        cells,
+        h,
+        w,
+        palette,
+        k,
+        orphan_min_region,
+        max_passes,
+        orphan_max_delta,
+        work,
+        facts,
+    )
+}
+
+// Corners trimmed over the lent cells.
+#[unsafe(no_mangle)]
+pub extern "C" fn silk_fix_jaggies(cells: &mut [i32], h: usize, w: usize, work: &mut [u32]) -> u32
+    ensures { (let call : JaggiesCall = record { lent = lent_sheet cells.old h w (length work.old) } in
+        (result ≡ status (done (jaggies_answer call))) × (cells.new ≡ jaggies_cells call)) }
+{
+    silk_c::silk_fix_jaggies(cells, h, w, work)
+}
+
+// An outline drawn over the lent cells and palette; five facts: height, width, colours, index (one more, 0 for none), clipped.
+#[unsafe(no_mangle)]
+pub extern "C" fn silk_add_outline(
+    cells: &mut [i32],
+    h: usize,
+    w: usize,
+    palette: &mut [f64],
+    k: usize,
+    kind: u32,
+    darken: f64,
+    r: u8,
+    g: u8,
+    b: u8,
+    allow_pad: u8,
+    fixed_palette: u8,
+    work: &mut [u32],
+    facts: &mut [u32],
+) -> u32
+    ensures { (let call : OutlineCall = record {
+      lent = lent_sheet cells.old h w (length work.old);
+      palette = palette_of palette.old k;
+      how = record { outline = outline_of kind darken r g b; allow_pad = is_set allow_pad; fixed_palette = is_set fixed_palette };
+    } in
+        let answer : CAnswer = after_facts_rows h w (length facts.old) 5 refused (outlined (outline_answer call)) in
+        (result ≡ status answer)
+        × (cells.new ≡ after_facts_rows h w (length facts.old) 5 (λ n. cells.old) (outline_cells call))
+        × (palette.new ≡ after_facts_rows h w (length facts.old) 5 (λ n. palette.old) (outline_palette call))
+        × (facts.new ≡ received answer facts.old)) }
+{
+    silk_c::silk_add_outline(
+        cells,
+        h,
+        w,
+        palette,
+        k,
+        kind,
+        darken,
+        r,
+        g,
+        b,
+        allow_pad,
+        fixed_palette,
+        work,
+        facts,
+    )
+}
+
+// A palette's a and b multiplied by beta.
+#[unsafe(no_mangle)]
+pub extern "C" fn silk_apply_saturation(palette: &mut [f64], k: usize, beta: f64) -> u32
+    ensures value { result ≡ status (done (saturation_answer (palette_of palette.old k) beta)) }
+    ensures palette_after { palette.new ≡ saturation_palette (palette_of palette.old k) beta }
+{
+    silk_c::silk_apply_saturation(palette, k, beta)
+}
+
+// All steps over the lent cells and palette; seven facts: those of an outline, and the passes of both cleanings.
+#[unsafe(no_mangle)]
+pub extern "C" fn silk_run(
+    cells: &mut [i32],
+    h: usize,
+    w: usize,
+    palette: &mut [f64],
+    k: usize,
+    beta: f64,
+    orphans: u8,
+    region: i32,
+    delta: f64,
+    jaggies: u8,
+    kind: u32,
+    darken: f64,
+    r: u8,
+    g: u8,
+    b: u8,
+    tileset: u8,
+    saturated: u8,
+    fixed_palette: u8,
+    margin: i32,
+    work: &mut [u32],
+    facts: &mut [u32],
+) -> u32
+    ensures { (let call : RunCall = record {
+      lent = lent_sheet cells.old h w (length work.old);
+      palette = palette_of palette.old k;
+      config = config_of (beta_of kind beta) orphans region delta jaggies (outline_of kind darken r g b) tileset;
+      saturated = is_set saturated;
+      fixed = is_set fixed_palette;
+      margin = margin;
+    } in
+        let answer : CAnswer = after_facts_rows h w (length facts.old) 7 refused (processed (run_answer call)) in
+        (result ≡ status answer)
+        × (cells.new ≡ after_facts_rows h w (length facts.old) 7 (λ n. cells.old) (run_cells call))
+        × (palette.new ≡ after_facts_rows h w (length facts.old) 7 (λ n. palette.old) (run_palette call))
+        × (facts.new ≡ received answer facts.old)) }
+{
+    silk_c::silk_run(
+        cells,
+        h,
+        w,
+        palette,
+        k,
+        beta,
+        orphans,
+        region,
+        delta,
+        jaggies,
+        kind,
+        darken,
+        r,
+        g,
+        b,
+        tileset,
+        saturated,
+        fixed_palette,
+        margin,
+        work,
+        facts,
+    )
+}
