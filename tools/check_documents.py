@@ -139,7 +139,7 @@ def must_fail():
 
 
 def crates():
-    listed = {crate: below.split() for crate, below in re.findall(r"^(\w+):([^#\n]*)", text(os.path.join(ROOT, "crates.txt")), re.M)}
+    listed = {crate: below.split() for crate, below in re.findall(r"^(\w+)(?: staticlib)?:([^#\n]*)", text(os.path.join(ROOT, "crates.txt")), re.M)}
     table = re.search(r"\| crate \| holds \|\n\|[-|]*\n((?:\|.*\n)*)", text(os.path.join(ROOT, "README.md")))[1]
     rows = [re.findall("`([^`]+)`", line.split("|")[1]) for line in table.split("\n")[:-1]]
     row = {crate: number for number, names in enumerate(rows) for name in names for crate in fnmatch.filter(listed, name)}

@@ -1,7 +1,7 @@
 -- What an accepted call of `run` may rely on. Assumes nothing.
-use Prim.Native.Nat.{ℕ, ◌≤◌}
-use mathlib.Core.Path.{◌≡◌, ◌∙◌}
-use mathlib.Core.Bool.{Bool, false, ◌||◌}
+use Prim.Native.Nat.{◌≤◌}
+use mathlib.Core.Path.{◌≡◌}
+use mathlib.Core.Bool.{Bool, false}
 use mathlib.Core.Option.{none}
 use lib.ListN.{length}
 use Rattle.base.proofs.Counting.{neither}

@@ -2,7 +2,7 @@
 use mathlib.Core.Path.{◌≡◌, sym, ◌∙◌}
 use mathlib.Core.Bool.{true, false}
 use native.Mathlib.Omega.{arith}
-use borrow.Author.Tests.{eq-eqb, ne_eqb, not-true, not-false}
+use borrow.Author.Tests.{eq-eqb, ne_eqb}
 use Rattle.hex_colour.specs.Hex.{all_digits, six_digits}
 use Rattle.hex_colour.proofs.six_digits.Statement.{statement}
 use Rattle.hex_colour.proofs.six_digits.Tie as tie

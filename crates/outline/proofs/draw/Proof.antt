@@ -1,9 +1,8 @@
 -- `outline::draw` meets its contract. With no ring nothing changes; else the entry, the marks and the ink. Assumes nothing.
 use Prim.Native.Nat.{ℕ, ◌*◌, ◌<◌}
-use mathlib.Core.Path.{refl, sym, ap, ◌∙◌}
+use mathlib.Core.Path.{sym, ap, ◌∙◌}
 use mathlib.Core.List.{List}
 use native.Mathlib.Omega.{arith}
-use borrow.Author.Tests.{not-true, not-false}
 use borrow.Author.Rules.{rules}
 use Rattle.base.specs.Outputs.{filled}
 use Rattle.outline_entry.proofs.Choosing.{index_below}

@@ -1,6 +1,6 @@
 -- `outline_entry::choose` meets its contract. By the ways in which a colour gets an entry. Assumes nothing.
 use mathlib.Core.Bool.{true}
-use mathlib.Core.Path.{◌≡◌, refl, sym, ap, ◌∙◌}
+use mathlib.Core.Path.{◌≡◌, sym, ap, ◌∙◌}
 use native.Mathlib.Omega.{arith}
 use borrow.Author.Rules.{rules}
 use Rattle.color.specs.declared.Rgb8.{Rgb8}

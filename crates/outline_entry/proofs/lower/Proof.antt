@@ -1,5 +1,4 @@
 -- `outline_entry::lower` meets its contract. By what the scan held. Assumes nothing.
-use mathlib.Core.Path.{refl}
 use borrow.Author.Rules.{rules}
 use Rattle.outline_entry.specs.Line.{lowered}
 use Rattle.outline_entry.proofs.lower.Statement.{statement}

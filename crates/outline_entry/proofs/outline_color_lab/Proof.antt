@@ -1,11 +1,11 @@
 -- `outline_entry::outline_color_lab` meets its contract. By the outline's cases. Assumes nothing.
 use Prim.Native.Nat.{ℕ}
-use mathlib.Core.Path.{refl, ap, ◌∙◌}
+use mathlib.Core.Path.{ap, ◌∙◌}
 use native.Mathlib.Omega.{arith}
 use borrow.Author.Rules.{rules}
 use Rattle.color.specs.declared.Lab.{Lab}
 use Rattle.rules.specs.Palette.{palette_of, colour}
-use Rattle.rules.specs.Outline.{darkest, darkened, line_colour}
+use Rattle.rules.specs.Outline.{darkened, line_colour}
 use Rattle.outline_entry.proofs.Scans.{darkest-below}
 use Rattle.outline_entry.proofs.outline_color_lab.Statement.{statement}
 use Rattle.outline_entry.proofs.outline_color_lab.Tie as tie

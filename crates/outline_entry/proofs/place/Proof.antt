@@ -1,5 +1,4 @@
 -- `outline_entry::place` meets its contract. By what the scan holds. Assumes nothing.
-use mathlib.Core.Path.{refl}
 use borrow.Author.Rules.{rules}
 use Rattle.outline_entry.specs.Line.{placed}
 use Rattle.outline_entry.proofs.place.Statement.{statement}

@@ -1,5 +1,4 @@
 -- `outline_entry::same_rgb8` meets its contract. Channel by channel. Assumes nothing.
-use mathlib.Core.Path.{refl}
 use borrow.Author.Tests.{eq-eqb, ne_eqb}
 use Rattle.rules.specs.Outline.{same_rgb8}
 use Rattle.outline_entry.proofs.same_rgb8.Statement.{statement}

@@ -1,5 +1,5 @@
 -- `refusals::bad_darkening` meets its contract. Row 6 of an outline, by its cases. Assumes nothing.
-use mathlib.Core.Path.{refl, ap}
+use mathlib.Core.Path.{ap}
 use mathlib.Core.Bool.{not}
 use borrow.Author.Rules.{rules}
 use lib.Ieee.{round, of_bits}

@@ -1,5 +1,4 @@
 -- `refusals::bad_palette` meets its contract. Row 4. Assumes nothing.
-use mathlib.Core.Path.{refl}
 use borrow.Author.Tests.{lt-ltb, le-ltb}
 use Rattle.rules.specs.Rows.{bad_palette}
 use Rattle.refusals.proofs.bad_palette.Statement.{statement}

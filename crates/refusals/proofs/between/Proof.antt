@@ -1,5 +1,4 @@
 -- `refusals::between` meets its contract. Both bounds, tested in turn. Assumes nothing.
-use mathlib.Core.Path.{refl}
 use Rattle.refusals.proofs.between.Statement.{statement}
 use Rattle.refusals.proofs.between.Tie as tie
 

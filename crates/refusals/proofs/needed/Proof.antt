@@ -1,6 +1,5 @@
 -- `refusals::needed` meets its contract. By whether padding applies. Assumes nothing.
 use Prim.Native.Nat.{◌+◌, ◌≤◌}
-use mathlib.Core.Path.{refl}
 use native.Mathlib.Omega.{arith}
 use borrow.Author.Rules.{rules}
 use Rattle.rules.specs.Sheet.{needed}

@@ -1,5 +1,4 @@
 -- `refusals::too_large` meets its contract. Row 1. Assumes nothing.
-use mathlib.Core.Path.{refl}
 use borrow.Author.Tests.{lt-ltb, le-ltb}
 use Rattle.rules.specs.Rows.{too_large}
 use Rattle.refusals.proofs.too_large.Statement.{statement}

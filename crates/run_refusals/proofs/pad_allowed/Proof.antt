@@ -1,5 +1,4 @@
 -- `run_refusals::pad_allowed` meets its contract. By whether tileset is on. Assumes nothing.
-use mathlib.Core.Path.{refl}
 use native.Mathlib.Omega.{arith}
 use Rattle.rules.specs.Run.{pad_allowed}
 use Rattle.run_refusals.proofs.Margins.{zero_bits}

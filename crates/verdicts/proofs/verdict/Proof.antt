@@ -4,7 +4,6 @@ use mathlib.Core.Path.{◌≡◌, sym, ap, ◌∙◌}
 use mathlib.Core.List.{List}
 use native.Mathlib.Omega.{arith}
 use borrow.Author.Rules.{rules}
-use borrow.Author.Tests.{not-true}
 use lib.ListN.{length, get_or}
 use Rattle.grid.specs.Planes.{plane, end_of}
 use Rattle.grid.proofs.Planes.{plane_read}

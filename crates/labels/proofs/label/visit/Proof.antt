@@ -96,13 +96,12 @@ above : (c : tie.In-Cell) → 264196 < c.args.code
 above c = c.requires.1.1.1.1
 
 returns-2 : tie.Need-returns-then-work-n
-returns-2 c =
-    (
-      Visited.kept (λ r e same free.
-          let l : r < n c.before.before = omega (arith, (bounds c.before.before).on, only c.before.before r e) in
-          code_kept (coded c.before.before) (above c.before.before) r l (λ z. c.if-work-n.true (word_at c.before.before r (only c.before.before r e) ∙ z)) same free),
-      coded c.before.before,
-    )
+returns-2 c = (
+  Visited.kept (λ r e same free.
+      let l : r < n c.before.before = omega (arith, (bounds c.before.before).on, only c.before.before r e) in
+      code_kept (coded c.before.before) (above c.before.before) r l (λ z. c.if-work-n.true (word_at c.before.before r (only c.before.before r e) ∙ z)) same free),
+  coded c.before.before,
+)
 
 -- the cell has no label, and the paint that the word tells
 fresh : (c : tie.Else-work-n) → Fresh (n c.before.before) c.args.work.now c.args.code (q c.before.before)

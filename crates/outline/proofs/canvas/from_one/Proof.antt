@@ -1,5 +1,4 @@
 -- `outline::canvas::from_one` meets its contract. Both bounds, tested in turn. Assumes nothing.
-use mathlib.Core.Path.{refl}
 use borrow.Author.Tests.{le-leb, lt-leb}
 use Rattle.outline.specs.Room.{from_one}
 use Rattle.outline.proofs.canvas.from_one.Statement.{statement}

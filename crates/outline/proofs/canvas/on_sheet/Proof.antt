@@ -1,5 +1,5 @@
 -- `outline::canvas::on_sheet` meets its contract. The row, then the column. Assumes nothing.
-use mathlib.Core.Path.{sym, ◌∙◌, refl}
+use mathlib.Core.Path.{sym, ◌∙◌}
 use borrow.Author.Rules.{rules}
 use Rattle.outline.specs.Room.{on_sheet}
 use Rattle.outline.proofs.canvas.on_sheet.Statement.{statement}

@@ -1,5 +1,4 @@
 -- `outline::ring::ahead` meets its contract. By whether there is such a place. Assumes nothing.
-use mathlib.Core.Path.{refl}
 use borrow.Author.Rules.{rules}
 use borrow.Author.Tests.{lt-ltb, le-ltb}
 use Rattle.outline.specs.Rows.{ahead}

@@ -1,5 +1,4 @@
 -- `outline::ring::back` meets its contract. By whether there is such a place. Assumes nothing.
-use mathlib.Core.Path.{refl}
 use native.Mathlib.Omega.{arith}
 use borrow.Author.Tests.{eq-eqb, ne_eqb}
 use Rattle.outline.specs.Rows.{back}

@@ -1,5 +1,4 @@
 -- `outline::ring::either` meets its contract. By the first test. Assumes nothing.
-use mathlib.Core.Path.{refl}
 use Rattle.outline.proofs.ring.either.Statement.{statement}
 use Rattle.outline.proofs.ring.either.Tie as tie
 

@@ -1,5 +1,4 @@
 -- `outline::rows::asked` meets its contract. By the outline's cases. Assumes nothing.
-use mathlib.Core.Path.{refl}
 use borrow.Author.Rules.{rules}
 use Rattle.rules.specs.Outline.{asked}
 use Rattle.outline.proofs.rows.asked.Statement.{statement}

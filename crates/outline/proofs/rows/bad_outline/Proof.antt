@@ -1,6 +1,5 @@
 -- `outline::rows::bad_outline` meets its contract. The tests in the order of the code. Assumes nothing.
 use mathlib.Core.Path.{sym, ◌∙◌}
-use borrow.Author.Tests.{not-true, not-false}
 use borrow.Author.Rules.{rules}
 use Rattle.rules.specs.Entries.{bad_outline}
 use Rattle.outline.proofs.rows.bad_outline.Statement.{statement}

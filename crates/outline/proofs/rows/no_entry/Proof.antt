@@ -1,6 +1,5 @@
 -- `outline::rows::no_entry` meets its contract. The tests in the order of the code. Assumes nothing.
 use mathlib.Core.Path.{◌≡◌, sym, ◌∙◌}
-use borrow.Author.Tests.{not-true, not-false}
 use borrow.Author.Rules.{rules}
 use Rattle.rules.specs.Sheet.{Sheet, sheet_of}
 use Rattle.rules.specs.Outline.{canvas, has_ring}

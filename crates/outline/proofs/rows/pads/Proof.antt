@@ -1,5 +1,5 @@
 -- `outline::rows::pads` meets its contract. The tests in the order of the code. Assumes nothing.
-use mathlib.Core.Path.{refl, sym, ◌∙◌}
+use mathlib.Core.Path.{sym, ◌∙◌}
 use borrow.Author.Tests.{not-true, not-false}
 use borrow.Author.Rules.{rules}
 use Rattle.outline.proofs.rows.pads.Statement.{statement}

@@ -11,7 +11,7 @@ returns c =
 
 returns-2 : tie.Need-returns-then-not-r
 returns-2 c =
-    byte_idle _ _ _ c.digit-d.ensures c.if-d-lt16.false c.if-not-r.true
+    byte_idle _ _ _ c.digit-d.ensures c.if-d-lt16.false (not-true _ c.if-not-r.true)
 
 returns-3 : tie.Need-returns-then-count-numbers
 returns-3 c =
@@ -19,7 +19,7 @@ returns-3 c =
 
 returns-4 : tie.Need-returns
 returns-4 c =
-    byte_put _ _ _ c.digit-d.ensures c.if-d-lt16.false c.if-not-r.false c.if-count-numbers.false
+    byte_put _ _ _ c.digit-d.ensures c.if-d-lt16.false (not-false _ c.if-not-r.false) c.if-count-numbers.false
 
 pub taken_spec : {M : Type 1} → statement M
 taken_spec =

@@ -3,7 +3,7 @@ use mathlib.Core.Path.{◌≡◌, ap, ap₂, ◌∙◌}
 use mathlib.Core.Logic.{⊎_elim}
 use Prim.Native.Nat.{◌-◌, ◌≤◌}
 use native.Mathlib.Omega.{arith}
-use Rattle.color.specs.Lab.{entry, distance}
+use Rattle.color.specs.Lab.{distance}
 use Rattle.verdicts.specs.Choice.{entry_distance, nearer, nearest}
 use Rattle.verdicts.proofs.Choosing.{nearest-start, nearest-more, nearest-same}
 use Rattle.verdicts.proofs.target.nearest.Statement.{statement}
