@@ -1,6 +1,5 @@
 -- Passes on the planes of the work area: the planes between two passes, what a pass makes of them, and what all passes come to. Definitions only. Assumes nothing.
 use Rattle.std.specs.Prelude.{ℕ, suc, ◌+◌, ◌≤◌, ◌<◌, ◌≡◌, ◌⊎◌, Bool, true, List, ltb, length, get_or}
-use Rattle.base.specs.Places.{count}
 use Rattle.rules.specs.Pass.{Rule}
 use Rattle.rules.specs.Pass as rules
 use Rattle.rules.proofs.Frontier.{Fronted}

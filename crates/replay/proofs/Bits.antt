@@ -1,5 +1,5 @@
 -- Numbers of the stream as cells, and the bits of doubles at the highest exponent. Assumes nothing.
-use Rattle.std.proofs.Common.{◌≡◌, ℕ, ◌-◌, ◌/◌, ◌%◌, ◌^◌, ◌<◌, ◌≤◌, Bool, true, false, cond, not, T, eqb, leb, ℤ, sym, ap, ◌∙◌, subst, true≢false, arith, to_z-of_z, w32, to_z, of_z, eq-eqb, ne_eqb, le-leb}
+use Rattle.std.proofs.Common.{◌≡◌, ℕ, ◌-◌, ◌/◌, ◌%◌, ◌^◌, ◌<◌, ◌≤◌, true, false, cond, not, T, eqb, leb, ℤ, sym, ap, ◌∙◌, subst, true≢false, arith, to_z-of_z, w32, to_z, of_z, eq-eqb, ne_eqb, le-leb}
 use borrow.Author.Tests.{lt-leb}
 use lib.Ieee.{Float, nan, inf, fin, binary64, of_bits, of_fields, to_bits, is_nan, ne}
 use lib.Ieee.Compare.{differs_from_itself, nan_differs}

@@ -1,5 +1,5 @@
 -- A loop that fills the first part of a buffer. Assumes nothing.
-use Rattle.std.proofs.Common.{◌≡◌, ℕ, ◌+◌, ◌<◌, ◌≤◌, min, List, ◌++◌, length, take, drop, set, sym, ap, ◌∙◌, arith, length-take-le, take_at}
+use Rattle.std.proofs.Common.{◌≡◌, ℕ, ◌+◌, ◌<◌, ◌≤◌, min, List, length, take, drop, set, sym, ap, ◌∙◌, arith, length-take-le, take_at}
 use Rattle.base.specs.Places.{table}
 use Rattle.base.specs.Outputs.{filled}
 use Rattle.base.proofs.Counting.{table-length}

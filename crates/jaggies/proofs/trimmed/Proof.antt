@@ -23,11 +23,10 @@ look-requires-2 : tie.Need-look-right-requires
 look-requires-2 c κs = search rules
 
 returns : tie.Need-returns-then-left-right
-returns c =
-    (
-      λ old seen. level _ _ _ c.requires.1 _ _ _ _ (c.look-left.ensures.0 old seen) (c.look-right.ensures.0 old seen) refl refl (on_both_same c.if-left-right.true),
-      (c.requires.1, c.requires.2),
-    )
+returns c = (
+  λ old seen. level _ _ _ c.requires.1 _ _ _ _ (c.look-left.ensures.0 old seen) (c.look-right.ensures.0 old seen) refl refl (on_both_same c.if-left-right.true),
+  (c.requires.1, c.requires.2),
+)
 
 look-requires-3 : tie.Need-look-above-requires
 look-requires-3 c κs = search rules
@@ -42,14 +41,13 @@ on-one-requires-2 : tie.Need-on_one-requires-2
 on-one-requires-2 c κs = search rules
 
 returns-2 : tie.Need-returns-then-not-on_one
-returns-2 c =
-    (
-      λ old seen. elim (either_no c.on_one.result c.on_one-2.result (ap not c.if-not-on_one.true)) [
-        | inl z ↦ level _ _ _ c.requires.1 _ _ _ _ (c.look-left.ensures.0 old seen) (c.look-right.ensures.0 old seen) (c.look-above.ensures.0 old seen) (c.look-below.ensures.0 old seen) (c.on_one.ensures z)
-        | inr z ↦ upright _ _ _ c.requires.1 _ _ _ _ (c.look-left.ensures.0 old seen) (c.look-right.ensures.0 old seen) (c.look-above.ensures.0 old seen) (c.look-below.ensures.0 old seen) (c.on_one-2.ensures z)
-      ],
-      (c.requires.1, c.requires.2),
-    )
+returns-2 c = (
+  λ old seen. elim (either_no c.on_one.result c.on_one-2.result (ap not c.if-not-on_one.true)) [
+    | inl z ↦ level _ _ _ c.requires.1 _ _ _ _ (c.look-left.ensures.0 old seen) (c.look-right.ensures.0 old seen) (c.look-above.ensures.0 old seen) (c.look-below.ensures.0 old seen) (c.on_one.ensures z)
+    | inr z ↦ upright _ _ _ c.requires.1 _ _ _ _ (c.look-left.ensures.0 old seen) (c.look-right.ensures.0 old seen) (c.look-above.ensures.0 old seen) (c.look-below.ensures.0 old seen) (c.on_one-2.ensures z)
+  ],
+  (c.requires.1, c.requires.2),
+)
 
 toward-requires : tie.Need-toward-requires
 toward-requires c κs = search rules

@@ -3,7 +3,6 @@ use Prim.Native.Nat.{ℕ, ◌*◌, ◌≤◌, ◌<◌}
 use mathlib.Core.Path.{◌≡◌, refl, sym, ◌∙◌}
 use native.Mathlib.Omega.{arith}
 use borrow.Author.Rules.{rules}
-use borrow.Author.Tests.{not-true}
 use lib.ListN.{length}
 use Rattle.rules.specs.Pass.{Rule, fresh}
 use Rattle.grid.specs.Planes.{cells_of}

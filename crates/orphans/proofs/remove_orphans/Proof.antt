@@ -1,5 +1,4 @@
 -- `orphans::remove_orphans` meets its contract: rows 1 to 3, rows 4 to 6, row 7, then the sheet is cleaned. Assumes nothing.
-use Prim.Native.Nat.{◌*◌, ◌≤◌}
 use mathlib.Core.Path.{◌≡◌, sym, ap, ◌∙◌}
 use mathlib.Core.Bool.{Bool, false}
 use mathlib.Core.List.{[]}

@@ -1,5 +1,5 @@
 -- `postprocess::run` meets its contract: a call that a row refuses, and what the lent lists hold after each step of one that none does. Assumes nothing.
-use mathlib.Core.Path.{◌≡◌, refl, sym, ap, ◌∙◌}
+use mathlib.Core.Path.{◌≡◌, ap, ◌∙◌}
 use mathlib.Core.Bool.{true}
 use mathlib.Core.Option.{none}
 use lib.IntN.{ℤ}

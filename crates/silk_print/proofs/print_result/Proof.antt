@@ -1,8 +1,6 @@
 -- `print_result` meets its contract. Assumes nothing.
 use borrow.Author.Rules.{rules}
 use mathlib.Core.Path.{sym, ◌∙◌}
-use borrow.Author.Tests.{not-false}
-use Rattle.base.proofs.Counting.{not_true}
 use Rattle.silk_print.specs.Print.{result_fits}
 use Rattle.silk_print.proofs.Outcome.{printed_no, printed_yes, fits_printable}
 use Rattle.silk_print.proofs.print_result.Statement.{statement}

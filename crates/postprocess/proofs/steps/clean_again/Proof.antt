@@ -1,7 +1,6 @@
 -- `postprocess::steps::clean_again` meets its contract, after an outline call and without one. Assumes nothing.
 use mathlib.Core.Path.{sym, ◌∙◌}
 use borrow.Author.Rules.{rules}
-use borrow.Author.Tests.{not-true, not-false}
 use Rattle.rules.specs.Palette.{palette_of}
 use Rattle.postprocess.proofs.Switched.{cleans_after, uncleaned_after}
 use Rattle.postprocess.proofs.steps.clean_again.Statement.{statement}

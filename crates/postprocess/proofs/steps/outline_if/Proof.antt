@@ -1,7 +1,6 @@
 -- `postprocess::steps::outline_if` meets its contract, with an outline and without. Assumes nothing.
 use mathlib.Core.Path.{sym, ◌∙◌}
 use borrow.Author.Rules.{rules}
-use borrow.Author.Tests.{not-true, not-false}
 use Rattle.rules.specs.Palette.{palette_of}
 use Rattle.outline.proofs.Refusing.{room_plain}
 use Rattle.postprocess.proofs.Switched.{unlined, lines}

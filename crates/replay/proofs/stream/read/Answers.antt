@@ -1,5 +1,4 @@
 -- No more numbers are put than the list has.
-use Rattle.std.proofs.Common.{rules}
 use Rattle.replay.proofs.Texts.{bytes_fit}
 use Rattle.replay.proofs.stream.read.Goals as goal
 

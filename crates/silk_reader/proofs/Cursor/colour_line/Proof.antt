@@ -3,7 +3,6 @@ use borrow.Author.Rules.{rules}
 use Rattle.silk_reader.specs.Reader.{chain, ◌>>◌, codes}
 use Rattle.silk_reader.specs.Lines.{colour_line}
 use Rattle.silk_reader.specs.Answers.{got_bytes, got_colour}
-use Rattle.silk_reader.proofs.Chaining.{pieces}
 use Rattle.silk_reader.proofs.Cursor.colour_line.Statement.{statement}
 use Rattle.silk_reader.proofs.Cursor.colour_line.Tie as tie
 

@@ -3,7 +3,6 @@ use borrow.Author.Rules.{rules}
 use Rattle.silk_reader.specs.Reader.{chain, ◌>>=◌}
 use Rattle.silk_reader.specs.Lines.{head}
 use Rattle.silk_reader.specs.Answers.{got_sizes, got_passes, got_outline, got_head}
-use Rattle.silk_reader.proofs.Chaining.{parts}
 use Rattle.silk_reader.proofs.Cursor.head.Statement.{statement}
 use Rattle.silk_reader.proofs.Cursor.head.Tie as tie
 

@@ -3,7 +3,6 @@ use borrow.Author.Rules.{rules}
 use Rattle.silk_reader.specs.Reader.{chain, ◌>>=◌}
 use Rattle.silk_reader.specs.Lines.{head_end}
 use Rattle.silk_reader.specs.Answers.{got_options, got_head}
-use Rattle.silk_reader.proofs.Chaining.{known, parts}
 use Rattle.silk_reader.proofs.Cursor.head_end.Statement.{statement}
 use Rattle.silk_reader.proofs.Cursor.head_end.Tie as tie
 

@@ -1,6 +1,5 @@
 -- `Cursor::number` meets its contract. Assumes nothing.
 use mathlib.Core.Path.{sym, ◌∙◌}
-use borrow.Author.Tests.{not-true, not-false}
 use native.Mathlib.Omega.{arith}
 use Rattle.silk_reader.specs.Answers.{got_number}
 use Rattle.silk_reader.proofs.Scanning.{digits_inside, digits_proper, number_none, number_no, number_yes}

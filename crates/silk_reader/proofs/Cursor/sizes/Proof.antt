@@ -3,7 +3,6 @@ use borrow.Author.Rules.{rules}
 use Rattle.silk_reader.specs.Reader.{chain, ◌>>=◌, give, codes}
 use Rattle.silk_reader.specs.Lines.{sizes}
 use Rattle.silk_reader.specs.Answers.{got_number, got_sizes}
-use Rattle.silk_reader.proofs.Chaining.{lines}
 use Rattle.silk_reader.proofs.Cursor.sizes.Statement.{statement}
 use Rattle.silk_reader.proofs.Cursor.sizes.Tie as tie
 
