@@ -153,7 +153,7 @@ def main():
 use Rattle.std.proofs.Common.{◌≡◌, refl}
 use lib.Ieee as Ieee
 use lib.Count
-use Rattle.std.specs.Prelude.{ℕ, ◌*◌, Bool, true, false, cond, List, [], ◌∷◌, ℤ, pos, negsuc, Float, length}
+use Rattle.std.specs.Prelude.{ℕ, ◌*◌, Bool, true, false, cond, List, [], ◌∷◌, ℤ, pos, negsuc, length}
 use mathlib.Core.List.{map}
 use Rattle.std.specs.Float.{binary64}
 use lib.Ieee.{of_bits, to_bits}
