@@ -20,7 +20,7 @@ CRATES = os.path.join(os.path.dirname(os.path.abspath(__file__)), "..", "crates"
 # what computing by the definitions opens
 OPENED = ["base/Places", "base/Outputs", "base/Doubles", "roots/Computed", "roots/Units", "channel/Channel", "color/Lab"] + [
     "rules/" + name for name in ("Sheet", "Palette", "Grid", "Regions", "Pass", "Corners", "Outline", "Run")]
-IEEE = "ofInt add sub mul div round lt le eq neg sum units odd size span climb ofBits ofFields toBits"
+IEEE = "of_int add sub mul div round lt le eq neg sum units odd size span climb of_bits of_fields to_bits"
 
 
 def opened():
@@ -28,11 +28,11 @@ def opened():
     imports, names = [], []
     for place in OPENED:
         crate, module = place.split("/")
-        imports.append(f"use Rattle·{crate}.specs.{module}")
+        imports.append(f"use Rattle.{crate}.specs.{module}")
         with open(os.path.join(CRATES, crate, "specs", module + ".antt"), encoding="utf-8") as file:
             found = re.findall(r"^ *unfoldable pub ([^ ]+) ", file.read(), re.M)
         names += [f"{module}.{name}" for name in found]
-    return imports, names + [f"Ieee.{name}" for name in IEEE.split()] + ["Count.trailingZeros"]
+    return imports, names + [f"Ieee.{name}" for name in IEEE.split()] + ["Count.count_trailing_zeros"]
 
 
 def z(n):
@@ -48,7 +48,7 @@ def bits(x):
 
 
 def dbl(x):
-    return f"(ofBits binary64 {bits(x)})"
+    return f"(of_bits binary64 {bits(x)})"
 
 
 def sheet(cells, h, w):
@@ -136,8 +136,8 @@ def rows(n, rng):
                 facts = [0] * 7
                 got = model.run(lent, h, w, lab, k, beta, orphans, region, colour, jag, how, darken, *rgb, tileset, saturated, fixed, margin, 8 * len(lent), facts)
                 assert got == 0, got
-                config = (f"(record {{ «saturation_beta» = {dbl(beta)}; «remove_orphans» = {boolean(orphans)}; «orphan_min_region» = {z(region)}; "
-                          f"«orphan_max_delta» = {dbl(colour)}; «fix_jaggies» = {boolean(jag)}; outline = {text}; tileset = {boolean(tileset)} }})")
+                config = (f"(record {{ saturation_beta = {dbl(beta)}; remove_orphans = {boolean(orphans)}; orphan_min_region = {z(region)}; "
+                          f"orphan_max_delta = {dbl(colour)}; fix_jaggies = {boolean(jag)}; outline = {text}; tileset = {boolean(tileset)} }})")
                 hh, ww, kk, index, clipped, first, second = facts
                 yield (f"ran {config} {boolean(saturated)} {boolean(fixed)} ({z(margin)}) {sheet(cells, h, w)} {palette(pal + [[0.0] * 3])}".replace(f"count = {k + 1}", f"count = {k}"),
                        outcome(lent[:hh * ww], lab[:3 * (k + 1)], None if index == 0 else index - 1, hh, ww, kk, clipped, first, second))
@@ -150,19 +150,19 @@ def main():
     imports, names = opened()
     pairs = list(rows(n, random.Random(seed)))
     text = "-- The definitions against an independent model. Assumes nothing.\n" + "\n".join(imports) + """
-use mathlib.Core.Path.{_≡_, refl}
+use Rattle.std.proofs.Common.{◌≡◌, refl}
 use lib.Ieee as Ieee
 use lib.Count
-use Prim.Native.Nat.{ℕ}
-use mathlib.Core.Bool.{Bool, true, false, cond}
-use mathlib.Core.List.{List, [], _∷_, map}
-use lib.IntN.{ℤ, pos, negsuc}
-use lib.Ieee.{Float, binary64, ofBits, toBits}
-use Rattle·rules.specs.declared.Outline.{Outline as How}
-use Rattle·rules.specs.declared.Outline.the-variants.{None, Auto, Rgb}
-use Rattle·rules.specs.declared.LineIndex.{LineIndex}
-use Rattle·rules.specs.declared.LineIndex.the-variants.{Nothing, Entry}
-use Rattle·rules.specs.declared.PostConfig.{PostConfig}
+use Rattle.std.specs.Prelude.{ℕ, ◌*◌, Bool, true, false, cond, List, [], ◌∷◌, ℤ, pos, negsuc, length}
+use mathlib.Core.List.{map}
+use Rattle.std.specs.Float.{binary64}
+use lib.Ieee.{of_bits, to_bits}
+use Rattle.rules.specs.declared.Outline.{Outline as How}
+use Rattle.rules.specs.declared.Outline.TheVariants.{None, Auto, Rgb}
+use Rattle.rules.specs.declared.LineIndex.{LineIndex}
+use Rattle.rules.specs.declared.LineIndex.TheVariants.{Nothing, Entry}
+use Rattle.rules.specs.declared.Limits.{Limits}
+use Rattle.rules.specs.declared.PostConfig.{PostConfig}
 
 record Shown : Type 0 where
   cells : List ℤ
@@ -170,31 +170,32 @@ record Shown : Type 0 where
   index : LineIndex
   facts : List ℕ
 
-unfoldable cleaned : ℕ → Palette.Palette → Run.Limits → Sheet.Sheet → Shown
-cleaned k p l s = let t = Run.tidy k p l s in record { cells = t .sheet .cells; lab = []; index = Nothing; facts = t .passes ∷ [] }
+unfoldable cleaned : ℕ → Palette.Palette → Limits → Sheet.Sheet → Shown
+cleaned k p l s = let t = Run.clean_sheet k p l s in record { cells = t.sheet.cells; lab = []; index = Nothing; facts = t.passes ∷ [] }
 
 unfoldable trimmed : Sheet.Sheet → Shown
-trimmed s = record { cells = Corners.trim s .cells; lab = []; index = Nothing; facts = [] }
+trimmed s = record { cells = (Corners.trim s).cells; lab = []; index = Nothing; facts = [] }
 
 unfoldable lined : Bool → Bool → How → Sheet.Sheet → Palette.Palette → Shown
-lined a f how s p =
-    let o = Outline.outline a f how s p in
-    record { cells = o .sheet .cells; lab = map (toBits binary64) (o .palette .lab); index = o .index; facts = o .sheet .height ∷ o .sheet .width ∷ o .palette .count ∷ cond (o .clipped) 1 0 ∷ [] }
+lined pad fixed how s p =
+    let o = Outline.outline (λ i. true) (record { outline = how; allow_pad = pad; fixed_palette = fixed }) p s in
+    record { cells = o.sheet.cells; lab = map (to_bits binary64) o.palette.lab; index = o.index; facts = o.sheet.height ∷ o.sheet.width ∷ o.palette.count ∷ cond o.clipped 1 0 ∷ [] }
 
 unfoldable ran : PostConfig → Bool → Bool → ℤ → Sheet.Sheet → Palette.Palette → Shown
-ran c sat f m s p =
-    let o = Run.process c sat f m s p in
-    record { cells = o .sheet .cells; lab = map (toBits binary64) (o .palette .lab); index = o .index; facts = o .sheet .height ∷ o .sheet .width ∷ o .palette .count ∷ cond (o .clipped) 1 0 ∷ o .passes ∷ o .again ∷ [] }
+ran config saturated fixed margin s p =
+    let lent : Sheet.LentSheet = record { cells = s.cells; height = s.height; width = s.width; work = 8 * length s.cells } in
+    let o = Run.process (record { lent = lent; palette = p; config = config; saturated = saturated; fixed = fixed; margin = margin }) in
+    record { cells = o.sheet.cells; lab = map (to_bits binary64) o.palette.lab; index = o.index; facts = o.sheet.height ∷ o.sheet.width ∷ o.palette.count ∷ cond o.clipped 1 0 ∷ o.passes ∷ o.again ∷ [] }
 
 """
     words = " ".join(["cleaned", "trimmed", "lined", "ran"] + names)
     for j in range(0, len(pairs), 8):
         part = pairs[j:j + 8]
-        text += f"rows{j} : _≡_ {{A = List Shown}}\n    ({lst(chr(10) + '    ' + a for a, _ in part)[1:-1]})\n    ({lst(chr(10) + '    ' + b for _, b in part)[1:-1]})\n"
+        text += f"rows{j} : ◌≡◌ {{A = List Shown}}\n    ({lst(chr(10) + '    ' + a for a, _ in part)[1:-1]})\n    ({lst(chr(10) + '    ' + b for _, b in part)[1:-1]})\n"
         text += f"unfolding {words}\nrows{j} = refl\n\n"
     os.makedirs(os.path.join(out, "src"), exist_ok=True)
     os.makedirs(os.path.join(out, "specs"), exist_ok=True)
-    open(os.path.join(out, "src/lib.rt"), "w").write("// Rows of the definitions against the model.\n")
+    open(os.path.join(out, "src/lib.rt"), "w").write("// Rows of the definitions against the model.\n#![tactic(auto)]\n")
     open(os.path.join(out, "specs/Lib.antt"), "w").write("pub mod Rows\n")
     open(os.path.join(out, "specs/Rows.antt"), "w").write(text)
     print(f"{len(pairs)} rows")
