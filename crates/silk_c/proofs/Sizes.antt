@@ -1,5 +1,5 @@
 -- The facts of an accepted outline, or run, fit 32-bit numbers: sides up to 514, at most 256 colours, and an index among them. Assumes nothing.
-use Prim.Native.Nat.{ℕ, ◌+◌, ◌≤◌, ◌<◌}
+use Prim.Native.Nat.{ℕ, ◌≤◌, ◌<◌}
 use mathlib.Core.Path.{◌≡◌, refl, sym, subst, ◌∙◌}
 use mathlib.Core.Bool.{Bool, true, false, ◌||◌, cond}
 use mathlib.Core.Option.{Option, none, some}
