@@ -1,5 +1,5 @@
 // Whether a call gave what is stored, list by list, and what is printed of that.
-ghost use Rattle.std.specs.Prelude.{◌≡◌, ◌+◌, ◌≤◌, min, ◌&&◌, length, if◌then◌else◌, ◌==◌, slice_index, IfOk};
+ghost use Rattle.std.specs.Prelude.{◌≡◌, ◌+◌, ◌≤◌, min, ◌&&◌, length, if◌then◌else◌, ◌==◌, slice_index};
 ghost use Rattle.replay.specs.Kinds.{same_byte, same_word, same_cell, same_double};
 ghost use Rattle.replay.specs.Comparisons.{answered_at, further};
 
@@ -89,34 +89,54 @@ fn print_case<W: Write>(out: &mut W, name: &[u8], case: u64) -> io::Result<()> {
     writeln!(out, ": case {case} differs")
 }
 
-// Prints a case that differs, or whose numbers are not just those that its entry takes. The answer is 1 for such a case, 0 for any other.
+// What is told of a case: 1 if it differs, 0 if not, and whether that could be printed.
+#[derive(Drop)]
+pub struct CaseReport {
+    pub differs: u64,
+    pub printed: io::Result<()>,
+}
+
+// Prints a case that differs, or whose numbers are not just those that its entry takes: it tells 1 for such a case, 0 for any other.
 pub fn report_case<W: Write>(
     out: &mut W,
     name: &[u8],
     case: u64,
     v: Comparison,
     end: usize,
-) -> io::Result<u64>
-    ensures value { IfOk result (λ n. n ≡ (if v.same && v.at == end then 0 else 1)) }
-    ensures upper_bound { IfOk result (λ n. n ≤ 1) }
+) -> CaseReport
+    ensures value { result.differs ≡ (if v.same && v.at == end then 0 else 1) }
+    ensures upper_bound { result.differs ≤ 1 }
 {
     if v.same & (v.at == end) {
-        return Ok(0);
+        return CaseReport {
+            differs: 0,
+            printed: Ok(()),
+        };
     }
-    print_case(out, name, case)?;
-    Ok(1)
+    CaseReport {
+        differs: 1,
+        printed: print_case(out, name, case),
+    }
 }
 
-// Prints how many cases a file has, and how many of them differ. The answer is whether none does.
-pub fn report_total<W: Write>(
-    out: &mut W,
-    name: &[u8],
-    cases: u64,
-    differing: u64,
-) -> io::Result<bool>
-    ensures { IfOk result (λ none. none ≡ (differing == 0)) }
-{
+fn print_total<W: Write>(out: &mut W, name: &[u8], cases: u64, differing: u64) -> io::Result<()> {
     out.write_all(name)?;
-    writeln!(out, ": {cases} cases, {differing} differ")?;
-    Ok(differing == 0)
+    writeln!(out, ": {cases} cases, {differing} differ")
+}
+
+// What is told of a file: whether no case of it differs, and whether that could be printed.
+#[derive(Drop)]
+pub struct TotalReport {
+    pub none: bool,
+    pub printed: io::Result<()>,
+}
+
+// Prints how many cases a file has, and how many of them differ.
+pub fn report_total<W: Write>(out: &mut W, name: &[u8], cases: u64, differing: u64) -> TotalReport
+    ensures { result.none ≡ (differing == 0) }
+{
+    TotalReport {
+        none: differing == 0,
+        printed: print_total(out, name, cases, differing),
+    }
 }

@@ -7,7 +7,9 @@ pub mod kinds;
 pub mod lists;
 pub mod stream;
 
-pub use comparison::{Comparison, answered, case_end, report_case, report_total};
+pub use comparison::{
+    CaseReport, Comparison, TotalReport, answered, case_end, report_case, report_total,
+};
 pub use kinds::{byte, cell, double, word};
 pub use lists::{lend_bytes, lend_cells, lend_doubles, lend_words};
 pub use stream::{Loaded, Stored, TEXT, number, past, read};

@@ -12,7 +12,9 @@ fn main(rt: HostRuntime) -> io::Result<()> {
     let Served {
         read: _,
         put: _,
+        whole,
         written,
     } = serve(&mut input, &mut output, &mut text, &mut out);
+    whole?;
     written
 }

@@ -1,8 +1,8 @@
 // What the program `silk` does: it reads a text, runs its sheet, and writes what comes of it.
 #![tactic(auto)]
 
-ghost use Rattle.std.specs.Prelude.{◌≡◌, length, take, OnOk};
-ghost use Rattle.std.specs.Io.KnownBytes.{Appends, Consumes};
+ghost use Rattle.std.specs.Prelude.{◌<◌, ◌≡◌, length, take, OnOk};
+ghost use Rattle.std.specs.Io.KnownBytes.{IsAtEnd, Appends, Consumes};
 ghost use Rattle.silk_text.specs.Answers.{laid};
 ghost use Rattle.silk_print.specs.Print.{refusal_text};
 ghost use Rattle.silk_reply.specs.Reply.{call_of, sheet_text, silk_text, Ran, Front, counted};
@@ -96,16 +96,17 @@ pub fn respond(text: &[u8], out: &mut [u8; ROOM]) -> usize
     }
 }
 
-// What `serve` did: how many bytes it read to the front of the text, how many of the answer it handed on, and whether the text was read to its end
-// and all of these were written, or which error came before that.
+// What `serve` did: how many bytes it read to the front of the text, how many of the answer it handed on, whether reading came to the end of the text
+// or of what can be read, and whether all that it handed on was written.
 #[derive(Drop)]
 pub struct Served {
     pub read: usize,
     pub put: usize,
+    pub whole: io::Result<()>,
     pub written: io::Result<()>,
 }
 
-// Reads a text, and writes what comes of it. Where reading fails, nothing is written.
+// Reads a text, and writes what comes of it. A read that fails counts as the end of the text.
 // A reader that tells which bytes it has left loses those that stand at the front of the text, and a writer that tells what it holds gains the answer.
 pub fn serve<R: Read, W: Write>(
     from: &mut R,
@@ -116,19 +117,18 @@ pub fn serve<R: Read, W: Write>(
     ensures put_value { result.put ≡ length (silk_text (take result.read text.new)) }
     ensures out_after { out.new ≡ laid 0 (silk_text (take result.read text.new)) out.old }
     ensures bytes_read { Consumes (R.remaining from.old) (R.remaining from.new) (take result.read text.new) }
+    ensures text_end { OnOk result.whole (result.read < 65537 → IsAtEnd (R.remaining from.new)) }
     ensures bytes_written { OnOk result.written (Appends (W.contents to.old) (W.contents to.new) (silk_text (take result.read text.new))) }
 {
     let Filled { count: n, whole } = read_full(from, text);
     let input: &[u8] = text;
     let count = respond(&input[..n], out);
     let output: &[u8] = out;
-    let written = match whole {
-        Ok(()) => to.write_all(&output[..count]),
-        Err(e) => Err(e),
-    };
+    let written = to.write_all(&output[..count]);
     Served {
         read: n,
         put: count,
+        whole,
         written,
     }
 }

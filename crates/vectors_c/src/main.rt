@@ -5,7 +5,7 @@ mod colours;
 mod regions;
 mod sheets;
 
-use replay::{Comparison, Loaded};
+use replay::{CaseReport, Comparison, Loaded, TotalReport};
 use std::io::Write;
 use std::rt::Files;
 use std::{fs, io};
@@ -52,11 +52,26 @@ fn replayed<F: Files, W: Write>(
     while at < count {
         let end = replay::case_end(&numbers, at, count);
         let found = case(entry, &numbers, at + 1);
-        differing += replay::report_case(out, name.as_bytes(), cases, found, end)?;
+        let CaseReport { differs, printed } = replay::report_case(
+            out,
+            name.as_bytes(),
+            cases,
+            found,
+            end,
+        );
+        printed?;
+        differing += differs;
         cases += 1;
         at = end;
     }
-    replay::report_total(out, name.as_bytes(), cases, differing)
+    let TotalReport { none, printed } = replay::report_total(
+        out,
+        name.as_bytes(),
+        cases,
+        differing,
+    );
+    printed?;
+    Ok(none)
 }
 
 fn main(rt: HostRuntime) -> io::Result<()> {

@@ -5,6 +5,7 @@
 ghost use Rattle.std.specs.Prelude.{◌+◌, ◌≤◌, ◌<◌, length, IfOk};
 
 use reading::{Filled, read_full};
+use replay::TotalReport;
 use replay::stream::least;
 use silk_reply::{ROOM, Served, TEXT, serve};
 use std::io::Write;
@@ -161,8 +162,10 @@ fn serve_files<F: Files>(files: &F, read: &mut [u8; TEXT], out: &mut [u8; ROOM])
     let Served {
         read: _,
         put: _,
+        whole,
         written,
     } = serve(&mut from, &mut to, read, out);
+    whole?;
     written
 }
 
@@ -241,7 +244,14 @@ fn replay_all<F: Files, W: Write>(
         number += 1;
         at = c.next;
     }
-    replay::report_total(to, b"silk_cases.txt", number, differing)
+    let TotalReport { none, printed } = replay::report_total(
+        to,
+        b"silk_cases.txt",
+        number,
+        differing,
+    );
+    printed?;
+    Ok(none)
 }
 
 // Replays the file of cases.

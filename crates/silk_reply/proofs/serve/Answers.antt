@@ -17,8 +17,8 @@ slice_bounds-write_all-end g c =
     let put = c.respond-count.ensures in
     sym (length-take-le _ _ (omega (arith, put.value, within _ _ put.out_after)))
 
-pub returns-in-Ok-clause-bytes_written : goal.returns-in-Ok-clause-bytes_written
-returns-in-Ok-clause-bytes_written g c =
+pub returns-clause-bytes_written : goal.returns-clause-bytes_written
+returns-clause-bytes_written g c =
     let put = c.respond-count.ensures in
     let answer = silk_text (take c.read_full-n.result.count c.read_full-n.new.buffer) in
     let same : take c.respond-count.result c.respond-count.new.out ≡ answer = ap (λ k. take k c.respond-count.new.out) put.value ∙ front _ _ put.out_after in
