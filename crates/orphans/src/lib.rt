@@ -79,7 +79,8 @@ pub fn clean_sheet(
     ensures cells_after { cells.new ≡ over (clean_sheet max_passes (palette_of palette.now k) limits (sheet_of cells.old size.h size.w)).sheet.cells cells.old }
 {
     let min_region = limits.region;
-    if min_region < 2 {
+    let none_small = min_region < 2;
+    if none_small {
         return 0;
     }
     let h = size.h;

@@ -42,7 +42,8 @@ fn later_pass(
     ensures { PassMade (rule_of grid by palette.now) grid by.k end work.old work.new result }
 {
     let mid = judge_frontier(work, grid, palette, by, begin, end);
-    if mid == end {
+    let idle = mid == end;
+    if idle {
         return end;
     }
     grow(work, grid, end, mid)

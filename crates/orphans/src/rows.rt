@@ -22,7 +22,8 @@ pub fn bad_index(cells: &[i32], n: usize, k: usize, region: i32) -> bool
     requires { (k ≤ 256) × (n ≤ length cells.now) }
     ensures { result ≡ (le_z (pos 2) region && any n (λ p. le_z (pos k) (at (take n cells.now) p))) }
 {
-    if region < 2 {
+    let none_small = region < 2;
+    if none_small {
         return false;
     }
     refusals::bad_index(cells, n, k)

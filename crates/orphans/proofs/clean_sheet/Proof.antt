@@ -28,12 +28,12 @@ known c = record { sfits = c.struct_told-1.given.0.1 }
 back : (c : tie.After-struct_told-1) → to_z w32 (of_z w32 (region c)) ≡ region c
 back c = to_z-of_z {w = w32} {z = region c} (known c)
 
-returns : tie.Need-returns-then-min_region-lt2
+returns : tie.Need-returns-then-none_small
 returns c =
-    none_cleaned c.requires c.args.max_passes c.args.limits.colour (rw (back c.before) at c.if-min_region-lt2.true)
+    none_cleaned c.requires c.args.max_passes c.args.limits.colour (rw (back c.before) at c.if-none_small.true)
 
-low : (c : tie.Else-min_region-lt2) → lt_z (region c.before) (pos 2) ≡ false
-low c = rw (back c.before) at c.if-min_region-lt2.false
+low : (c : tie.Else-none_small) → lt_z (region c.before) (pos 2) ≡ false
+low c = rw (back c.before) at c.if-none_small.false
 
 cast-limit : tie.Need-overflow_cast-limit
 cast-limit c =

@@ -16,11 +16,11 @@ judge-frontier-requires c κs = ((c.requires.0.between.stage, c.requires.1), c.r
 all_judged : (c : tie.After-judge_frontier-mid) → let a = c.args in AllJudged (rule_of a.grid a.by a.palette.now) a.grid a.by.k a.end c.judge_frontier-mid.result a.work.now c.judge_frontier-mid.new.work
 all_judged c = frontier_all_judged c.requires.0 c.judge_frontier-mid.ensures
 
-same_length : tie.Need-shape_of-work-then-mid-end
+same_length : tie.Need-shape_of-work-then-idle
 same_length c = search rules
 
-returns : tie.Need-returns-then-mid-end
-returns c = made-idle c.requires.0.between (all_judged c.before.before.before) c.if-mid-end.true
+returns : tie.Need-returns-then-idle
+returns c = made-idle c.requires.0.between (all_judged c.before.before.before) c.if-idle.true
 
 grow-requires : tie.Need-grow-requires
 grow-requires c κs = decided c.requires.0.between (all_judged c.before.before.before.before)
@@ -30,7 +30,7 @@ same-length-2 c = search rules
 
 returns-2 : tie.Need-returns
 returns-2 c =
-    made-on c.requires.0.between (all_judged c.before.before.before.before.before.before.before) (omega (arith, c.if-mid-end.false, (all_judged c.before.before.before.before.before.before.before).judged.log.rises)) c.grow.ensures
+    made-on c.requires.0.between (all_judged c.before.before.before.before.before.before.before) (omega (arith, c.if-idle.false, (all_judged c.before.before.before.before.before.before.before).judged.log.rises)) c.grow.ensures
 
 pub later_pass_spec : {M : Type 1} → statement M
 later_pass_spec = tie.close (tie.spec

@@ -32,12 +32,12 @@ size_is : (c : tie.After-region_size invariant-loop decreases-loop) → c.region
 unfolding size_of
 size_is c = let e : suc (turn c).before.loop-at.at - 1 ≡ (turn c).before.loop-at.at = omega arith in rw e c.region_size.ensures
 
-returns : tie.Need-returns-then-region_size-limit invariant-loop decreases-loop
+returns : tie.Need-returns-then-small invariant-loop decreases-loop
 returns c =
     let r = c.before in
     let i = turn r in
     let s = start i in
-    sym (yes_any s.args.count (less s.args.n s.args.work.now s.args.limit) i.before.loop-at.at i.loop-at-test.true (lt-ltb (size_of s.args.n s.args.work.now (suc i.before.loop-at.at)) s.args.limit (omega (arith, size_is r, c.if-region_size-limit.true))))
+    sym (yes_any s.args.count (less s.args.n s.args.work.now s.args.limit) i.before.loop-at.at i.loop-at-test.true (lt-ltb (size_of s.args.n s.args.work.now (suc i.before.loop-at.at)) s.args.limit (omega (arith, size_is r, c.if-small.true))))
 
 loop-again : tie.Need-loop-at-preserved invariant-loop decreases-loop
 unfolding any
@@ -45,7 +45,7 @@ loop-again c =
     let r = c.before in
     let i = turn r in
     let s = start i in
-    let z : less s.args.n s.args.work.now s.args.limit i.before.loop-at.at ≡ false = le-ltb (size_of s.args.n s.args.work.now (suc i.before.loop-at.at)) s.args.limit (omega (arith, size_is r, c.if-region_size-limit.false)) in
+    let z : less s.args.n s.args.work.now s.args.limit i.before.loop-at.at ≡ false = le-ltb (size_of s.args.n s.args.work.now (suc i.before.loop-at.at)) s.args.limit (omega (arith, size_is r, c.if-small.false)) in
     (rw (add-one i.before.loop-at.at, z) i.before.loop-at.invariant.0, omega (arith, i.loop-at-test.true))
 
 returns-2 : tie.Need-returns invariant-loop decreases-loop
