@@ -24,7 +24,8 @@ pub fn any_small(work: &[u32], n: usize, count: usize, limit: u32) -> bool
     ensures { result ≡ any count (λ at. ltb (size_of n work.now (suc at)) limit) }
 {
     for at in 0..count {
-        let small = region_size(work, n, at) < limit;
+        let size = region_size(work, n, at);
+        let small = size < limit;
         if small {
             return true;
         }

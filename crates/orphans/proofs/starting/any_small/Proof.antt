@@ -22,15 +22,15 @@ invariant-loop work n count limit at₀ at = (any at (less n work limit) ≡ fal
 abbrev decreases-loop : tie.decreases-loop-at
 decreases-loop work n count limit at₀ at = count - at
 
-abbrev turn : tie.After-region_size invariant-loop decreases-loop → tie.In-loop-at invariant-loop decreases-loop
+abbrev turn : tie.After-region_size-size invariant-loop decreases-loop → tie.In-loop-at invariant-loop decreases-loop
 turn c = c.before
 
 abbrev start : tie.In-loop-at invariant-loop decreases-loop → tie.Start invariant-loop decreases-loop
 start c = c.before.before.before
 
-size_is : (c : tie.After-region_size invariant-loop decreases-loop) → c.region_size.result ≡ size_of (start (turn c)).args.n (start (turn c)).args.work.now (suc (turn c).before.loop-at.at)
+size_is : (c : tie.After-region_size-size invariant-loop decreases-loop) → c.region_size-size.result ≡ size_of (start (turn c)).args.n (start (turn c)).args.work.now (suc (turn c).before.loop-at.at)
 unfolding size_of
-size_is c = let e : suc (turn c).before.loop-at.at - 1 ≡ (turn c).before.loop-at.at = omega arith in rw e c.region_size.ensures
+size_is c = let e : suc (turn c).before.loop-at.at - 1 ≡ (turn c).before.loop-at.at = omega arith in rw e c.region_size-size.ensures
 
 returns : tie.Need-returns-then-small invariant-loop decreases-loop
 returns c =
@@ -58,7 +58,7 @@ loop-holds : tie.Need-loop-at-init invariant-loop decreases-loop
 unfolding any
 loop-holds c = (refl, omega arith)
 
-region-size-requires : tie.Need-region_size-requires invariant-loop decreases-loop
+region-size-requires : tie.Need-region_size-size-requires invariant-loop decreases-loop
 region-size-requires c κs =
     let s = start c in
     (s.requires.0.0, s.requires.0.1, s.requires.1 c.before.loop-at.at c.loop-at-test.true)
