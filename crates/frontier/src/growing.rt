@@ -63,11 +63,13 @@ fn absorb(work: &mut [u32], grid: Grid, step: Move, paint: u32, end: usize) -> u
         return end;
     };
     let own = work[q];
-    if own != paint {
+    let other = own != paint;
+    if other {
         return end;
     }
     let last = work[5 * n + q];
-    if last != 0 {
+    let large = last != 0;
+    if large {
         return end;
     }
     let label = work[n + q] as usize;

@@ -10,6 +10,9 @@ use crate::regions::set_region;
 use grid::{Grid, Move, OFFSETS8, Step, on_edge, reached};
 use verdicts::{Criteria, region_span, step_count, verdict};
 
+// What `verdict` gives for a region that stays undecided.
+const UNDECIDED: u32 = 0;
+
 // The region with the label at + 1 is decided, if it can be: frozen at once, or logged at `end` to be repainted. The log's end then.
 pub fn judge(
     work: &mut [u32],
@@ -25,7 +28,7 @@ pub fn judge(
 {
     let n = grid.h * grid.w;
     let v = verdict(work, grid, palette, by, at);
-    if v == 0 {
+    if v == UNDECIDED {
         return end;
     }
     work[6 * n + at] = v;

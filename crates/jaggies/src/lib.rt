@@ -14,6 +14,9 @@ use base::Filling;
 use grid::{Step, neighbour};
 use refusals::sheet_refusal;
 
+// What `look` gives for a transparent cell.
+const TRANSPARENT: u32 = 0;
+
 // Row y and column x of a sheet of h rows of w cells.
 #[derive(Clone, Copy)]
 struct Spot {
@@ -114,7 +117,7 @@ fn cut(cells: &[i32], work: &[u32], at: Spot, sy: i32, sx: i32, a: u32) -> u32
     ensures upper_bound { result ≤ most }
 {
     let b = look(cells, work, at, -sy, -sx);
-    if b == 0 {
+    if b == TRANSPARENT {
         return 0;
     }
     if b == a {

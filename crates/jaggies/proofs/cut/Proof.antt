@@ -57,7 +57,7 @@ rest : (c : tie.Else-b-a) (old : List ℤ) →
     let b = c.look-b.result in
     Seen c.before.before.before.before old → (t : Bool) → (By c.before.before.before.before old arms a && By c.before.before.before.before old around (cell_of b) && By c.before.before.before.before old goes_on a) ≡ t → cond t b 0 ≡ By c.before.before.before.before old cut a
 rest c old seen =
-    cut_by _ _ _ _ _ c.requires.2 (look_tells c.before.before old seen) c.if-b-eq0.false c.if-b-a.false
+    cut_by _ _ _ _ _ c.requires.2 (look_tells c.before.before old seen) c.if-b-eq-TRANSPARENT.false c.if-b-a.false
 
 -- arms and surroundings are right
 held : (c : tie.Else-not-around) (old : List ℤ) →
@@ -67,8 +67,8 @@ held c old seen =
 
 -- ---- the needs
 
-returns : tie.Need-returns-then-b-eq0
-returns c = (λ old seen. cut_clear _ _ _ _ _ c.requires.2 (look_tells c.before old seen) c.if-b-eq0.true, omega arith)
+returns : tie.Need-returns-then-b-eq-TRANSPARENT
+returns c = (λ old seen. cut_clear _ _ _ _ _ c.requires.2 (look_tells c.before old seen) c.if-b-eq-TRANSPARENT.true, omega arith)
 
 returns-2 : tie.Need-returns-then-b-a
 returns-2 c = (λ old seen. cut-same _ _ _ _ _ c.requires.2 (look_tells c.before.before old seen) c.if-b-a.true, omega arith)
@@ -84,7 +84,7 @@ returns-3 c = (λ old seen. rest c.before.before old seen false (rw (sym (arms_t
 
 around-requires : tie.Need-around-requires
 around-requires c κs =
-    (c.requires.0, same_way c.before.before.before.before.before.before, omega (arith, c.if-b-eq0))
+    (c.requires.0, same_way c.before.before.before.before.before.before, omega (arith, c.if-b-eq-TRANSPARENT))
 
 returns-4 : tie.Need-returns-then-not-around
 returns-4 c = (λ old seen. rest c.before.before.before.before old seen false (rw (sym (arms_tells c.before.before.before old seen) ∙ c.if-not-arms.false, sym (around_tells c.before old seen) ∙ c.if-not-around.true)), omega arith)

@@ -83,9 +83,9 @@ slice-read-own c = omega (arith, seen c.before)
 paint_is : (c : tie.In-Cell) → get_or (work c.before.before.before.before.before.before) (q c) 0 ≡ plane (n c.before.before.before.before.before.before) 0 (work c.before.before.before.before.before.before) (q c)
 paint_is c = plane_read (n c.before.before.before.before.before.before) 0 (q c) (q c) (work c.before.before.before.before.before.before) (omega arith)
 
-returns-2 : tie.Need-returns-then-own-paint
+returns-2 : tie.Need-returns-then-other
 returns-2 c =
-    idle c.before.before.before.before.before.before.before.before (λ x z y. absurd (c.if-own-paint.true (paint_is c.before.before ∙ ap (plane (n c.before.before.before.before.before.before.before.before) 0 (work c.before.before.before.before.before.before.before.before)) (sym (only c.before.before x z.0)) ∙ z.1)))
+    idle c.before.before.before.before.before.before.before.before (λ x z y. absurd (c.if-other.true (paint_is c.before.before ∙ ap (plane (n c.before.before.before.before.before.before.before.before) 0 (work c.before.before.before.before.before.before.before.before)) (sym (only c.before.before x z.0)) ∙ z.1)))
 
 mul-last : tie.Need-overflow_mul-last
 mul-last c = omega (arith, seen c.before.before)
@@ -99,9 +99,9 @@ mul-last-2 c = omega (arith, seen c.before.before)
 slice-read-last : tie.Need-bounds-work-n
 slice-read-last c = omega (arith, seen c.before.before.before)
 
-returns-3 : tie.Need-returns-then-last-ne0
+returns-3 : tie.Need-returns-then-large
 returns-3 c =
-    idle c.before.before.before.before.before.before.before.before.before.before (λ x z y e. c.if-last-ne0.true ((seen c.before.before.before.before).large ∙ ap (plane (n c.before.before.before.before.before.before.before.before.before.before) 5 (work c.before.before.before.before.before.before.before.before.before.before)) (sym (only c.before.before.before.before x z.0)) ∙ e))
+    idle c.before.before.before.before.before.before.before.before.before.before (λ x z y e. c.if-large.true ((seen c.before.before.before.before).large ∙ ap (plane (n c.before.before.before.before.before.before.before.before.before.before) 5 (work c.before.before.before.before.before.before.before.before.before.before)) (sym (only c.before.before.before.before x z.0)) ∙ e))
 
 add-label : tie.Need-overflow_add-label
 add-label c = omega (arith, seen c.before.before.before.before)
@@ -135,11 +135,11 @@ pub record Found (r : tie.In-Cell) : Type 0 where
 found-group : (c : tie.Else-label-eq0) → Found c.before.before.before.before.before.before
 found-group c =
     let e : plane (n c.before.before.before.before.before.before.before.before.before.before.before.before) 1 (work c.before.before.before.before.before.before.before.before.before.before.before.before) (q c.before.before.before.before.before.before) ≡ suc (at c.before.before.before.before.before.before) = sym (seen c.before.before.before.before.before.before).label ∙ omega (arith, c.if-label-eq0.false) in
-    let l = zero_big (n c.before.before.before.before.before.before.before.before.before.before.before.before) (work c.before.before.before.before.before.before.before.before.before.before.before.before) (q c.before.before.before.before.before.before) (sym (seen c.before.before.before.before.before.before).large ∙ c.if-last-ne0.false) in
+    let l = zero_big (n c.before.before.before.before.before.before.before.before.before.before.before.before) (work c.before.before.before.before.before.before.before.before.before.before.before.before) (q c.before.before.before.before.before.before) (sym (seen c.before.before.before.before.before.before).large ∙ c.if-large.false) in
     record {
       label = e;
       little = l;
-      paint = sym (paint_is c.before.before.before.before.before.before) ∙ c.if-own-paint.false;
+      paint = sym (paint_is c.before.before.before.before.before.before) ∙ c.if-other.false;
       low = (c.requires.0.sheet.groups (q c.before.before.before.before.before.before) (at c.before.before.before.before.before.before) (seen c.before.before.before.before.before.before).inside e).label;
       room = grown_room c.args.grid c.args.end (work c.before.before.before.before.before.before.before.before.before.before.before.before) c.requires.0 (q c.before.before.before.before.before.before) (at c.before.before.before.before.before.before) (seen c.before.before.before.before.before.before).inside e l;
     }

@@ -39,7 +39,7 @@ verdict-requires c κs =
     let st = s.requires.0.0 in
     ((st.sheet, s.requires.1), ((st.known, s.requires.0.1), (st.sound, st.unmarked s.args.at s.requires.1.label)))
 
-same_length : tie.Need-shape_of-work-then-v-eq0
+same_length : tie.Need-shape_of-work-then-v-eq-UNDECIDED
 same_length c = search rules
 
 -- the work area once the verdict is made
@@ -74,13 +74,13 @@ room c z =
     let u = c.verdict-v.ensures in
     (stage_room s.requires.0.0 s.requires.1).1 (elim (ℕ_discrete (plane (n s) 6 s.args.work.now s.args.at) 0) [ yes y ↦ y | no y ↦ absurd (z (u.done y)) ]) (u.little z)
 
-returns : tie.Need-returns-then-v-eq0
+returns : tie.Need-returns-then-v-eq-UNDECIDED
 returns c =
     let v = c.before.before.before in
     let s = start v in
-    noted_still (ruled s) (n s) s.args.at s.args.end s.args.work.now (voted v) (sizes v).label (omega (arith, sizes v)) (made v 0 c.if-v-eq0.true)
+    noted_still (ruled s) (n s) s.args.at s.args.end s.args.work.now (voted v) (sizes v).label (omega (arith, sizes v)) (made v 0 c.if-v-eq-UNDECIDED.true)
 
-abbrev judged : tie.Else-v-eq0 → tie.After-verdict-v
+abbrev judged : tie.Else-v-eq-UNDECIDED → tie.After-verdict-v
 judged c = c.before.before.before
 
 mul-work : tie.Need-overflow_mul-work
@@ -102,7 +102,7 @@ set-region-requires c κs =
     let s = start v in
     let z = sizes v in (
       group-alike (six_alike (ruled s) (n s) s.args.at s.args.end s.args.work.now (voted v)
-          z.label (omega (arith, z)) v.verdict-v.result v.verdict-v.ensures o.if-v-eq0.false (6 * n s + s.args.at) (omega arith) (omega (arith, z))) s.args.at s.requires.1,
+          z.label (omega (arith, z)) v.verdict-v.result v.verdict-v.ensures o.if-v-eq-UNDECIDED.false (6 * n s + s.args.at) (omega arith) (omega (arith, z))) s.args.at s.requires.1,
       (simp length-set z.room, z.few, omega arith, inr (omega arith)),
     )
 
@@ -118,7 +118,7 @@ returns-2 c =
     let s = start v in
     let z = sizes v in
     noted_froze (ruled s) (n s) s.args.at s.args.end s.args.work.now (voted v)
-    z.label (omega (arith, z)) v.verdict-v.result v.verdict-v.ensures o.if-v-eq0.false (6 * n s + s.args.at) (omega arith) (omega (arith, z)) w.if-v-eq1.true t.set_region.new.work t.set_region.ensures
+    z.label (omega (arith, z)) v.verdict-v.result v.verdict-v.ensures o.if-v-eq-UNDECIDED.false (6 * n s + s.args.at) (omega arith) (omega (arith, z)) w.if-v-eq1.true t.set_region.new.work t.set_region.ensures
 
 cast-work : tie.Need-overflow_cast-work
 cast-work c = omega (arith, sizes (judged c.before))
@@ -133,7 +133,7 @@ mul-work-4 : tie.Need-offset_bounds-work-n-2
 mul-work-4 c = omega (arith, sizes (judged c.before))
 
 slice-write-work-2 : tie.Need-bounds-work-n-2
-slice-write-work-2 c = let v = judged c.before in simp length-set (omega (arith, sizes v, room v c.before.if-v-eq0.false))
+slice-write-work-2 c = let v = judged c.before in simp length-set (omega (arith, sizes v, room v c.before.if-v-eq-UNDECIDED.false))
 
 add-result : tie.Need-overflow_add-result
 add-result c = omega (arith, sizes (judged c.before))
@@ -147,10 +147,10 @@ returns-3 c =
     let v = judged o in
     let s = start v in
     let z = sizes v in
-    let r = room v o.if-v-eq0.false in
+    let r = room v o.if-v-eq-UNDECIDED.false in
     rw (add-one s.args.end)
     (noted_logged (ruled s) (n s) s.args.at s.args.end s.args.work.now (voted v)
-    z.label (omega (arith, z)) v.verdict-v.result v.verdict-v.ensures o.if-v-eq0.false (6 * n s + s.args.at) (omega arith) (omega (arith, z)) c.if-v-eq1.false r (7 * n s + s.args.end) (omega arith) (simp length-set (omega (arith, z))))
+    z.label (omega (arith, z)) v.verdict-v.result v.verdict-v.ensures o.if-v-eq-UNDECIDED.false (6 * n s + s.args.at) (omega arith) (omega (arith, z)) c.if-v-eq1.false r (7 * n s + s.args.end) (omega arith) (simp length-set (omega (arith, z))))
 
 pub judge_spec : {M : Type 1} → statement M
 judge_spec =
