@@ -4,11 +4,18 @@ ghost use Rattle.base.specs.Outputs.{filled};
 ghost use Rattle.grid.specs.Planes.{plane, paint_of};
 ghost use Rattle.grid.specs.Tiles.{Tile, paint_at, Paints, repaint, stored_to, stored};
 
+// The index of a palette's first entry: a cell below it is transparent.
+const FIRST_ENTRY: i32 = 0;
+
 // 0 for a transparent cell, index + 1 otherwise.
 fn paint(cell: i32) -> u32
     ensures { result ≡ paint_of cell }
 {
-    if cell < 0 { 0 } else { cell as u32 + 1 }
+    if cell < FIRST_ENTRY {
+        0
+    } else {
+        cell as u32 + 1
+    }
 }
 
 // Row y of the tile goes to plane 0.

@@ -151,6 +151,9 @@ pub struct Chosen {
     pub colours: usize,
 }
 
+// The entries that a palette has place for.
+const ENTRIES: usize = 256;
+
 // Finds the entry for a colour: in a fixed palette the nearest; else the first of the same RGB8, else a new one, else the nearest, written over.
 pub fn choose(palette: &mut [f64], k: usize, c: Lab, fixed: bool) -> Chosen
     requires { (length palette.old ≡ 768) × (k ≤ 256) }
@@ -169,7 +172,7 @@ pub fn choose(palette: &mut [f64], k: usize, c: Lab, fixed: bool) -> Chosen
             colours: k,
         };
     }
-    if k < 256 {
+    if k < ENTRIES {
         recolour(palette, k, c);
         return Chosen {
             index: k,

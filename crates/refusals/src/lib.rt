@@ -16,11 +16,14 @@ ghost use Rattle.refusals.specs.Near.{all_near};
 use base::Filling;
 use rules::Outline;
 
+// The most rows that a sheet has.
+const MOST_ROWS: usize = 512;
+
 // Row 1: a side is above 512.
 pub fn too_large(h: usize, w: usize) -> bool
     ensures { result ≡ (too_large h w).applies }
 {
-    h > 512 || w > 512
+    h > MOST_ROWS || w > 512
 }
 
 // The needed cells: (h + 2) × (w + 2) if padding applies, else h × w.
@@ -113,7 +116,8 @@ pub fn palette_refusal(palette: &[f64], k: usize, bad: bool) -> Filling
     if bad_colour(palette, k) {
         return Filling::Refused(5);
     }
-    if bad {
+    let out_of_range = bad;
+    if out_of_range {
         return Filling::Refused(6);
     }
     Filling::Done

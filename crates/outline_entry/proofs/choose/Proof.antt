@@ -50,12 +50,12 @@ recolour-requires c κs = search rules
 add-t18 : tie.Need-overflow_add-result
 add-t18 c = search rules
 
-same-length-3 : tie.Need-shape_of-palette-then-k-lt256
+same-length-3 : tie.Need-shape_of-palette-then-k-lt-ENTRIES
 same-length-3 c = search rules
 
-returns-3 : tie.Need-returns-then-k-lt256
+returns-3 : tie.Need-returns-then-k-lt-ENTRIES
 returns-3 c =
-    rw c.if-fixed.false (chose_append _ _ (answer c.before.before.before.before.before.before ∙ c.in_default.is) _ c.if-k-lt256.true c.recolour.ensures)
+    rw c.if-fixed.false (chose_append _ _ (answer c.before.before.before.before.before.before ∙ c.in_default.is) _ c.if-k-lt-ENTRIES.true c.recolour.ensures)
 
 nearest-entry-requires-2 : tie.Need-nearest_entry-i-requires-2
 nearest-entry-requires-2 c κs = search rules
@@ -69,7 +69,7 @@ same-length-4 c = search rules
 
 returns-4 : tie.Need-returns
 returns-4 c =
-    rw c.if-fixed.false (chose_replace _ _ (answer c.before.before.before.before.before.before.before ∙ c.in_default.is) _ _ c.if-k-lt256.false c.nearest_entry-i-2.ensures c.recolour-2.ensures)
+    rw c.if-fixed.false (chose_replace _ _ (answer c.before.before.before.before.before.before.before ∙ c.in_default.is) _ _ c.if-k-lt-ENTRIES.false c.nearest_entry-i-2.ensures c.recolour-2.ensures)
 
 pub choose_spec : {M : Type 1} → statement M
 choose_spec =

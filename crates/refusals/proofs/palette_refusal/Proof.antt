@@ -45,13 +45,13 @@ past_5 c =
     let p = palette (begun c.before.before.before) in
     row-pass (bad_palette p) _ (not_4 c.before.before) ∙ row-pass (bad_colour p) _ (sym c.before.bad_colour.ensures ∙ c.if-bad_colour.false)
 
-returns-3 : tie.Need-returns-then-bad
+returns-3 : tie.Need-returns-then-out_of_range
 unfolding bad_setting
-returns-3 c = some_filling (past_5 c.before ∙ row_hit (bad_setting _) [] c.if-bad.true)
+returns-3 c = some_filling (past_5 c.before ∙ row_hit (bad_setting _) [] c.if-out_of_range.true)
 
 returns-4 : tie.Need-returns
 unfolding bad_setting
-returns-4 c = none_filling (past_5 c.before ∙ row_last (bad_setting _) c.if-bad.false)
+returns-4 c = none_filling (past_5 c.before ∙ row_last (bad_setting _) c.if-out_of_range.false)
 
 pub palette_refusal_spec : {M : Type 1} → statement M
 palette_refusal_spec = tie.close (tie.spec

@@ -11,8 +11,8 @@ use Rattle.grid.proofs.tile.paint.Statement.{statement}
 use Rattle.grid.proofs.tile.paint.Tie as tie
 
 -- the cell is opaque
-opaque : (c : tie.Else-cell-lt0) → lt_z c.before.args.cell (pos 0) ≡ false
-opaque c = rw (to_z-of_z c.before.ranges.cell) at c.if-cell-lt0.false
+opaque : (c : tie.Else-cell-lt-FIRST_ENTRY) → lt_z c.before.args.cell (pos 0) ≡ false
+opaque c = rw (to_z-of_z c.before.ranges.cell) at c.if-cell-lt-FIRST_ENTRY.false
 
 cast-result : tie.Need-overflow_cast-result
 cast-result c = rw (to_z-of_z c.before.ranges.cell) (to_T (not_before c.before.args.cell (opaque c)), Fits-nat_abs tt c.before.ranges.cell)
@@ -20,10 +20,10 @@ cast-result c = rw (to_z-of_z c.before.ranges.cell) (to_T (not_before c.before.a
 add-result : tie.Need-overflow_add-result
 add-result c = rw (to_z-of_z c.before.ranges.cell) (omega (arith, paint_fits c.before.args.cell c.before.ranges.cell (opaque c)))
 
-returns : tie.Need-returns-then-cell-lt0
-returns c = clear_paint c.before.args.cell (rw (to_z-of_z c.before.ranges.cell) at c.if-cell-lt0.true)
+returns : tie.Need-returns-then-cell-lt-FIRST_ENTRY
+returns c = clear_paint c.before.args.cell (rw (to_z-of_z c.before.ranges.cell) at c.if-cell-lt-FIRST_ENTRY.true)
 
-returns-2 : tie.Need-returns-else-cell-lt0
+returns-2 : tie.Need-returns-else-cell-lt-FIRST_ENTRY
 returns-2 c = rw (to_z-of_z c.before.ranges.cell) (opaque_paint c.before.args.cell (opaque c))
 
 pub paint_spec : {M : Type 1} → statement M
