@@ -13,6 +13,9 @@ use grid::{Grid, Move, OFFSETS8, Step, on_edge, reached};
 // No label is above it. A place without a label has in plane 1 its paint and this more.
 const MOST: u32 = 264196;
 
+// The paint of a transparent place, which is in no region.
+const UNPAINTED: u32 = 0;
+
 // The cell that a step finds joins the region, if it has no label and the region's paint: the word `code`.
 fn visit(work: &mut [u32], g: Grid, m: Move, code: u32, t: Tally) -> Tally
     requires p_bound { (m.p < g.h * g.w) × (g.h ≤ 514) × (g.w ≤ 514) × (8 * (g.h * g.w) ≤ length work.old) }
@@ -160,7 +163,7 @@ fn word(paint: u32) -> u32
     requires { paint ≤ 2147483648 }
     ensures { result ≡ word_of paint }
 {
-    if paint == 0 { 0 } else { paint + MOST }
+    if paint == UNPAINTED { 0 } else { paint + MOST }
 }
 
 // No place has a label.

@@ -9,11 +9,17 @@ ghost use Rattle.mask.specs.Lines.{bit_of, less, set_from, padded, next_count, g
 use base::Filling;
 use refusals::{grid_refusal, lesser};
 
+// The number of a place that is not set.
+const UNSET: u32 = 0;
+
+// A dilation by more iterations is refused.
+const MOST_ITERATIONS: u32 = 65535;
+
 // 1 for a number that is not 0.
 pub fn bit(v: u32) -> u32
     ensures { result ≡ bit_of v }
 {
-    if v == 0 { 0 } else { 1 }
+    if v == UNSET { 0 } else { 1 }
 }
 
 // a - b, or 0 where b is more.
@@ -173,7 +179,7 @@ pub fn binary_dilation8(
     if let Filling::Refused(row) = grid_refusal(h, w, mask.len(), out.len(), work.len()) {
         return Filling::Refused(row);
     }
-    if 65535 < iterations {
+    if MOST_ITERATIONS < iterations {
         return Filling::Refused(6);
     }
     if 0 < h * w {

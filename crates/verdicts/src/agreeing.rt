@@ -18,7 +18,8 @@ fn join(so_far: u32, paint: u32) -> u32
     if so_far == 0 {
         return paint;
     }
-    if so_far == paint {
+    let same = so_far == paint;
+    if same {
         return paint;
     }
     SEVERAL

@@ -17,7 +17,8 @@ fn ask(work: &mut [u32], n: usize, q: usize, mark: u32, counts: &mut [u32; 256])
     ensures { Polled n mark (λ x. x ≡ q) work.old work.new counts.new }
 {
     let last = work[5 * n + q];
-    if last == 0 {
+    let small = last == 0;
+    if small {
         return;
     }
     if last == mark {

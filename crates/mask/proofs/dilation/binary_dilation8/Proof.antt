@@ -38,16 +38,16 @@ past_3 c = filling_none c.grid_refusal.ensures c.in_default.is
 fit : (c : tie.In_default) → let a = c.args in Room a.h a.w (a.h * a.w) (length a.mask.now) (length a.work.now) × (a.h * a.w ≤ length a.out.now)
 fit c = grid_room (past_3 c)
 
-returns-2 : tie.Need-returns-then-iterations-gt65535
+returns-2 : tie.Need-returns-then-iterations-gt-MOST_ITERATIONS
 unfolding dilation_refusal grid_refusal dilation_answer dilation_out
 returns-2 c =
-    let e = rows_pass _ (row 6 _ ∷ []) (past_3 c.before) ∙ row_hit (row 6 _) [] (lt-ltb _ _ c.if-iterations-gt65535.true) in
+    let e = rows_pass _ (row 6 _ ∷ []) (past_3 c.before) ∙ row_hit (row 6 _) [] (lt-ltb _ _ c.if-iterations-gt-MOST_ITERATIONS.true) in
     (some_filling e, some_unless _ _ e)
 
 -- no row refuses
-clear : (c : tie.Else-iterations-gt65535) → let a = c.args in dilation_refusal a.mask.now a.h a.w a.iterations a.out.now (length a.work.now) ≡ none
+clear : (c : tie.Else-iterations-gt-MOST_ITERATIONS) → let a = c.args in dilation_refusal a.mask.now a.h a.w a.iterations a.out.now (length a.work.now) ≡ none
 unfolding dilation_refusal grid_refusal
-clear c = rows_pass _ (row 6 _ ∷ []) (past_3 c.before) ∙ row_last (row 6 _) (le-ltb _ _ c.if-iterations-gt65535.false)
+clear c = rows_pass _ (row 6 _ ∷ []) (past_3 c.before) ∙ row_last (row 6 _) (le-ltb _ _ c.if-iterations-gt-MOST_ITERATIONS.false)
 
 mul-if2 : tie.Need-overflow_mul-h
 mul-if2 c = omega (arith, (fit c.before).0.few)
@@ -58,7 +58,7 @@ reach-requires c κs = search rules
 dilate-requires : tie.Need-dilate-requires
 dilate-requires c κs =
     let f = fit c.before.before.before.before.before in
-    let r = reach-small _ _ _ f.0.high f.0.wide c.if-iterations-gt65535.false in
+    let r = reach-small _ _ _ f.0.high f.0.wide c.if-iterations-gt-MOST_ITERATIONS.false in
     ((f.0.high, f.0.wide, c.if-h-w-gt0.true, omega (arith, r, c.reach-k.ensures)), (f.0.held, f.1, f.0.free))
 
 same_length : tie.Need-shape_of-out

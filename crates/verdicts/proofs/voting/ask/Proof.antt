@@ -29,10 +29,10 @@ marked s e = omega (arith, s.requires.1.0.1)
 mark-is : (s : tie.Start) → get_or s.args.work.now (5 * s.args.n + s.args.q) 0 ≡ plane s.args.n 5 s.args.work.now s.args.q
 mark-is s = plane_read s.args.n 5 s.args.q (5 * s.args.n + s.args.q) s.args.work.now (omega arith)
 
-returns : tie.Need-returns-then-last-eq0
+returns : tie.Need-returns-then-small
 returns c =
     polled_silent c.args.n c.args.mark (marked c.before.before) c.args.q c.requires.1.0.0 c.args.work.now c.args.counts.now c.requires.1.1
-    (λ z. absurd (z (sym (mark-is c.before.before) ∙ c.if-last-eq0.true)))
+    (λ z. absurd (z (sym (mark-is c.before.before) ∙ c.if-small.true)))
 
 returns-2 : tie.Need-returns-then-last-mark
 returns-2 c =
@@ -40,7 +40,7 @@ returns-2 c =
     (λ z. sym (mark-is c.before.before.before) ∙ c.if-last-mark.true)
 
 large : (c : tie.Else-last-mark) → plane c.args.n 5 c.args.work.now c.args.q ≡ 0 → ⊥
-large c e = c.if-last-eq0.false (mark-is c.before.before.before ∙ e)
+large c e = c.if-small.false (mark-is c.before.before.before ∙ e)
 
 paint_is : (c : tie.Else-last-mark) → get_or c.args.work.now c.args.q 0 ≡ plane c.args.n 0 c.args.work.now c.args.q
 paint_is c = plane_read c.args.n 0 c.args.q c.args.q c.args.work.now (omega arith)
