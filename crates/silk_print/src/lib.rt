@@ -133,12 +133,15 @@ fn put_signed(out: &mut [u8], at: usize, c: i32) -> usize
     put_number(out, at, n)
 }
 
+// The column before which no comma stands.
+const FIRST_COLUMN: usize = 0;
+
 // The cell of column x, after a comma unless it is the first.
 fn put_cell(out: &mut [u8], at: usize, x: usize, c: i32) -> usize
     requires { at + 12 ≤ length out.old }
     ensures { Put 12 (cell_text x c) at out.old out.new result }
 {
-    if x == 0 {
+    if x == FIRST_COLUMN {
         return put_signed(out, at, c);
     }
     let next = put_byte(out, at, b',');

@@ -124,6 +124,9 @@ fn head_of(s: Sizes, p: Passes, kind: OutlineKind, o: Options) -> Head
     }
 }
 
+// The most colours that a text may bring.
+const MOST_COLOURS: usize = 256;
+
 // The head, unless it asks for more than 40 rows or columns, or more than 256 colours.
 fn checked_head(h: Head, next: Cursor) -> HeadRead
     ensures { (text : List ℕ) → got_head text result ≡ checked_head h (drop next.at text) }
@@ -134,7 +137,7 @@ fn checked_head(h: Head, next: Cursor) -> HeadRead
     if h.width > 40 {
         return HeadRead::Refused(1);
     }
-    if h.colours > 256 {
+    if h.colours > MOST_COLOURS {
         return HeadRead::Refused(4);
     }
     HeadRead::Value(h, next)

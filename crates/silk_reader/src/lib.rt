@@ -84,14 +84,20 @@ fn line_end(text: &[u8], at: usize) -> usize
     end
 }
 
+// The most digits that a number is written with.
+const MOST_DIGITS: usize = 9;
+
 // Whether digits write a number: one to nine of them, with no leading zero.
 fn proper(digits: &[u8]) -> bool
     ensures { result ≡ proper digits.now }
 {
+    if digits.len() > MOST_DIGITS {
+        return false;
+    }
     match digits.len() {
+        0 => false,
         1 => true,
-        2..=9 => digits[0] != b'0',
-        _ => false,
+        _ => digits[0] != b'0',
     }
 }
 
@@ -126,6 +132,9 @@ fn negated(n: u32) -> i32
     let z = n as i32;
     -z
 }
+
+// The number that no minus may stand before.
+const NEVER_NEGATIVE: u32 = 0;
 
 impl Cursor {
     // Past the bytes of a key.
@@ -192,7 +201,7 @@ impl Cursor {
         let NumberRead::Value(n, next) = self.number(text) else {
             return CellRead::Malformed;
         };
-        if n == 0 {
+        if n == NEVER_NEGATIVE {
             return CellRead::Malformed;
         }
         CellRead::Value(negated(n), next)

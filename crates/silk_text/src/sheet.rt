@@ -146,11 +146,14 @@ fn read_file(text: &[u8], palette: &mut [f64], cells: &mut [i32]) -> HeadRead
     }
 }
 
+// The most bytes of a text that are read.
+const MOST_BYTES: usize = 65536;
+
 // The first 65,536 bytes of a text.
 fn limited(text: &[u8]) -> &[u8]
     ensures { result.now ≡ take max_bytes text.now }
 {
-    if text.len() > 65536 {
+    if text.len() > MOST_BYTES {
         &text[..65536]
     } else {
         text
@@ -165,7 +168,8 @@ fn read_text(text: &[u8], palette: &mut [f64], cells: &mut [i32]) -> Parsed
     let part = limited(text);
     match read_file(part, palette, cells) {
         HeadRead::Value(h, end) => {
-            if end.at < part.len() {
+            let left_over = end.at < part.len();
+            if left_over {
                 return Parsed::Refused(10);
             }
             if part.len() < text.len() {

@@ -9,12 +9,12 @@ use Rattle.silk_print.proofs.put_cell.Tie as tie
 put-signed-requires : tie.Need-put_signed-requires
 put-signed-requires c κs = omega arith
 
-same_length : tie.Need-shape_of-out-then-x-eq0
+same_length : tie.Need-shape_of-out-then-x-eq-FIRST_COLUMN
 same_length c = search rules
 
-returns : tie.Need-returns-then-x-eq0
+returns : tie.Need-returns-then-x-eq-FIRST_COLUMN
 returns c =
-    cell-first c.ranges.c c.if-x-eq0.true c.put_signed.ensures
+    cell-first c.ranges.c c.if-x-eq-FIRST_COLUMN.true c.put_signed.ensures
 
 put-byte-requires : tie.Need-put_byte-next-requires
 put-byte-requires c κs = omega arith
@@ -28,7 +28,7 @@ same-length-2 c = search rules
 
 returns-2 : tie.Need-returns
 returns-2 c =
-    cell_later c.ranges.c c.if-x-eq0.false c.put_byte-next.ensures c.put_signed-2.ensures c.requires
+    cell_later c.ranges.c c.if-x-eq-FIRST_COLUMN.false c.put_byte-next.ensures c.put_signed-2.ensures c.requires
 
 pub put_cell_spec : {M : Type 1} → statement M
 put_cell_spec = tie.close (tie.spec

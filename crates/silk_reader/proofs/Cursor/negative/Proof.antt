@@ -22,10 +22,10 @@ returns : tie.Need-returns-in_default
 unfolding got_number got_cell negative ◌>>=◌ chain
 returns c = rw (known (got_number _) c.number.ensures c.in_default.is)
 
-returns-2 : tie.Need-returns-then-n-eq0
+returns-2 : tie.Need-returns-then-n-eq-NEVER_NEGATIVE
 unfolding got_number got_cell negative ◌>>=◌ chain minus
 returns-2 c =
-    rw (known (got_number _) c.number.ensures c.in-Value.is, eq-eqb _ 0 c.if-n-eq0.true)
+    rw (known (got_number _) c.number.ensures c.in-Value.is, eq-eqb _ 0 c.if-n-eq-NEVER_NEGATIVE.true)
 
 negated-requires : tie.Need-negated-requires
 unfolding got_number
@@ -36,7 +36,7 @@ returns-3 : tie.Need-returns
 unfolding got_number got_cell negative ◌>>=◌ chain minus
 returns-3 c =
     let e = known (got_number _) c.number.ensures c.in-Value.is in
-    rw (e, ne_eqb _ 0 c.if-n-eq0.false, back (neg_fits _ (number_small _ e)) c.negated.ensures)
+    rw (e, ne_eqb _ 0 c.if-n-eq-NEVER_NEGATIVE.false, back (neg_fits _ (number_small _ e)) c.negated.ensures)
 
 pub negative_spec : {M : Type 1} → statement M
 negative_spec = tie.close (tie.spec

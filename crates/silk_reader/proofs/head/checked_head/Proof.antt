@@ -16,17 +16,17 @@ returns-2 c text =
     let h = c.args.h in
     rw (le-ltb 40 h.height c.if-h-gt40.false, lt-ltb 40 h.width c.if-h-gt40-2.true)
 
-returns-3 : tie.Need-returns-then-h-gt256
+returns-3 : tie.Need-returns-then-h-gt-MOST_COLOURS
 unfolding got_head checked_head refusal unless
 returns-3 c text =
     let h = c.args.h in
-    rw (le-ltb 40 h.height c.if-h-gt40.false, le-ltb 40 h.width c.if-h-gt40-2.false, lt-ltb 256 h.colours c.if-h-gt256.true)
+    rw (le-ltb 40 h.height c.if-h-gt40.false, le-ltb 40 h.width c.if-h-gt40-2.false, lt-ltb 256 h.colours c.if-h-gt-MOST_COLOURS.true)
 
 returns-4 : tie.Need-returns
 unfolding got_head checked_head refusal unless
 returns-4 c text =
     let h = c.args.h in
-    rw (le-ltb 40 h.height c.if-h-gt40.false, le-ltb 40 h.width c.if-h-gt40-2.false, le-ltb 256 h.colours c.if-h-gt256.false)
+    rw (le-ltb 40 h.height c.if-h-gt40.false, le-ltb 40 h.width c.if-h-gt40-2.false, le-ltb 256 h.colours c.if-h-gt-MOST_COLOURS.false)
 
 pub checked_head_spec : {M : Type 1} → statement M
 checked_head_spec = tie.close (tie.spec

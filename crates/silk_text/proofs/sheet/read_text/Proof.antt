@@ -18,16 +18,16 @@ read-file-requires c κs = omega arith
 enum-known-h : tie.Need-enum_known-h
 enum-known-h c = search rules
 
-same_length : tie.Need-shape_of-palette-then-end-part
+same_length : tie.Need-shape_of-palette-then-left_over
 same_length c = search rules
 
-same-length-2 : tie.Need-shape_of-cells-then-end-part
+same-length-2 : tie.Need-shape_of-cells-then-left_over
 same-length-2 c = search rules
 
-returns : tie.Need-returns-then-end-part
+returns : tie.Need-returns-then-left_over
 unfolding got_file got_sheet
 returns c =
-    sym (text_over _ _ _ _ c.limited-part.ensures _ (known (got_file _ _ _) c.read_file.ensures c.in-Value.is) (inl c.if-end-part.true))
+    sym (text_over _ _ _ _ c.limited-part.ensures _ (known (got_file _ _ _) c.read_file.ensures c.in-Value.is) (inl c.if-left_over.true))
 
 same-length-3 : tie.Need-shape_of-palette-then-part-text
 same-length-3 c = search rules
@@ -52,7 +52,7 @@ same-length-6 c = search rules
 returns-3 : tie.Need-returns-else-part-text
 unfolding got_file got_sheet
 returns-3 c =
-    sym (text_yes _ _ _ _ c.limited-part.ensures _ (known (got_file _ _ _) c.read_file.ensures c.in-Value.is) c.if-end-part.false c.if-part-text.false)
+    sym (text_yes _ _ _ _ c.limited-part.ensures _ (known (got_file _ _ _) c.read_file.ensures c.in-Value.is) c.if-left_over.false c.if-part-text.false)
 
 same-length-7 : tie.Need-shape_of-palette-in-Refused
 same-length-7 c = search rules
