@@ -56,13 +56,16 @@ fn without_marks(text: &[u8]) -> &[u8]
     &text[i..]
 }
 
+// The last small letter that is a hex digit.
+const LAST_SMALL: u8 = b'f';
+
 // The value of a hex digit, 16 for any other byte.
 fn digit(c: u8) -> u8
     ensures { result ≡ digit c }
 {
     match c {
         b'0'..=b'9' => c - b'0',
-        b'a'..=b'f' => c - b'a' + 10,
+        b'a'..=b'z' => if c <= LAST_SMALL { c - b'a' + 10 } else { 16 },
         b'A'..=b'F' => c - b'A' + 10,
         _ => 16,
     }

@@ -8,7 +8,7 @@ use Rattle.hex_colour.proofs.digit.Tie as tie
 add-result : tie.Need-overflow_add-result
 add-result c = omega arith
 
-add-result-2 : tie.Need-overflow_add-result-in-97-to-102
+add-result-2 : tie.Need-overflow_add-result-then-c-le-LAST_SMALL
 add-result-2 c = omega arith
 
 returns : tie.Need-returns-in-48-to-57
@@ -17,8 +17,11 @@ returns c = digit-decimal (omega arith) (omega arith)
 returns-2 : tie.Need-returns-in-65-to-70
 returns-2 c = digit_capital (omega arith) (omega arith)
 
-returns-3 : tie.Need-returns-in-97-to-102
+returns-3 : tie.Need-returns-then-c-le-LAST_SMALL
 returns-3 c = digit-small (omega arith) (omega arith)
+
+returns-3-2 : tie.Need-returns-else-c-le-LAST_SMALL
+returns-3-2 c = digit_no (inr (omega arith)) (inr (omega arith)) (inr (omega arith))
 
 returns-4 : tie.Need-returns-in_default
 returns-4 c = digit_no (inl (omega arith)) (inl (omega arith)) (inl (omega arith))
@@ -39,6 +42,7 @@ digit_spec = tie.close (tie.spec
     returns
     returns-2
     returns-3
+    returns-3-2
     returns-4
     returns-5
     returns-6
