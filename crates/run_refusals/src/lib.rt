@@ -77,7 +77,9 @@ fn settings_refusal(palette: &[f64], k: usize, config: PostConfig, kept: bool) -
     if let Filling::Refused(n) = palette_refusal(palette, k, bad_ranges(config)) {
         return Filling::Refused(n);
     }
-    if kept {
+    // Saturation scales a palette unless it is kept.
+    let scaled = !kept;
+    if !scaled {
         return Filling::Done;
     }
     if scaled_too_far(palette, k, config.saturation_beta) {

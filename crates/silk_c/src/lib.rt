@@ -243,11 +243,14 @@ pub fn silk_apply_saturation(palette: &mut [f64], k: usize, beta: f64) -> u32
     number(saturation::apply_saturation(palette, k, beta))
 }
 
+// The last kind of outline.
+const LAST_KIND: u32 = 2;
+
 // Beta, or NaN where the kind of outline is out of range.
 fn beta_of(kind: u32, beta: f64) -> f64
     ensures { result ≡ beta_of kind beta }
 {
-    if 2 < kind { 0.0 / 0.0 } else { beta }
+    if LAST_KIND < kind { 0.0 / 0.0 } else { beta }
 }
 
 // The settings of `run`.

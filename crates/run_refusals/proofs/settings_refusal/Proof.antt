@@ -34,17 +34,17 @@ returns c =
     let s = c.args in
     some_filling (in_two s.config s.kept (palette c.before) ∙ rows_hit _ _ (filling_some (judged c.before) c.in-Refused.is))
 
-returns-2 : tie.Need-returns-then-kept
+returns-2 : tie.Need-returns-then-not-scaled
 returns-2 c =
     let s = c.args in
     none_filling (in_two s.config s.kept (palette c.before.before) ∙ rows_pass _ _ (passed_over c.before)
-    ∙ row_last _ (ap out_of_range (kept_tones s.config s.kept (palette c.before.before) c.if-kept.true) ∙ (usable c.before).ranged))
+    ∙ row_last _ (ap out_of_range (kept_tones s.config s.kept (palette c.before.before) c.if-not-scaled.true) ∙ (usable c.before).ranged))
 
 -- the doubles that saturation leaves
 scaled : (c : tie.After-scaled_too_far) → let s = c.args in out_of_range (toned s.kept s.config (palette c.before.before.before)) ≡ c.scaled_too_far.result
 scaled c =
     let s = c.args in
-    ap out_of_range (new_tones s.config s.kept (palette c.before.before.before) c.if-kept.false) ∙ sym c.scaled_too_far.ensures
+    ap out_of_range (new_tones s.config s.kept (palette c.before.before.before) c.if-not-scaled.false) ∙ sym c.scaled_too_far.ensures
 
 returns-3 : tie.Need-returns-then-scaled_too_far
 returns-3 c =

@@ -6,11 +6,11 @@ use Rattle.silk_c.specs.Arguments.{beta_of}
 use Rattle.silk_c.proofs.beta_of.Statement.{statement}
 use Rattle.silk_c.proofs.beta_of.Tie as tie
 
-returns : tie.Need-returns-then-kind-gt2
+returns : tie.Need-returns-then-kind-gt-LAST_KIND
 unfolding beta_of div round of_bits
 returns c = rw (lt-ltb 2 c.args.kind (omega arith))
 
-returns-2 : tie.Need-returns-else-kind-gt2
+returns-2 : tie.Need-returns-else-kind-gt-LAST_KIND
 unfolding beta_of
 returns-2 c = rw (le-ltb 2 c.args.kind (omega arith))
 
