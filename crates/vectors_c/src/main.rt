@@ -30,6 +30,31 @@ fn case(entry: u64, numbers: &[u64], at: usize) -> Comparison {
     }
 }
 
+// Replays the cases of a file that was read to `numbers`. The answer is whether none differs.
+fn replay_cases<W: Write>(
+    out: &mut W,
+    entry: u64,
+    name: &[u8],
+    numbers: &[u64],
+    count: usize,
+) -> io::Result<bool> {
+    let mut cases: u64 = 0;
+    let mut differing: u64 = 0;
+    let mut at = 0;
+    while at < count {
+        let end = replay::case_end(numbers, at, count);
+        let found = case(entry, numbers, at + 1);
+        let CaseReport { differs, printed } = replay::report_case(out, name, cases, found, end);
+        printed?;
+        differing += differs;
+        cases += 1;
+        at = end;
+    }
+    let TotalReport { none, printed } = replay::report_total(out, name, cases, differing);
+    printed?;
+    Ok(none)
+}
+
 // Replays all cases of a file. The answer is whether none differs.
 fn replayed<F: Files, W: Write>(
     files: &F,
@@ -46,32 +71,7 @@ fn replayed<F: Files, W: Write>(
         whole,
     } = replay::read(&mut file, &mut text, &mut numbers);
     whole?;
-    let mut cases: u64 = 0;
-    let mut differing: u64 = 0;
-    let mut at = 0;
-    while at < count {
-        let end = replay::case_end(&numbers, at, count);
-        let found = case(entry, &numbers, at + 1);
-        let CaseReport { differs, printed } = replay::report_case(
-            out,
-            name.as_bytes(),
-            cases,
-            found,
-            end,
-        );
-        printed?;
-        differing += differs;
-        cases += 1;
-        at = end;
-    }
-    let TotalReport { none, printed } = replay::report_total(
-        out,
-        name.as_bytes(),
-        cases,
-        differing,
-    );
-    printed?;
-    Ok(none)
+    replay_cases(out, entry, name.as_bytes(), &numbers, count)
 }
 
 fn main(rt: HostRuntime) -> io::Result<()> {

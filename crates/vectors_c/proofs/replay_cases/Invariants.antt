@@ -1,6 +1,6 @@
 -- Each turn moves on, and no more cases differ, or were met, than places were passed.
 use Rattle.std.proofs.Common.{◌≤◌, ◌-◌}
-use Rattle.vectors_c.proofs.replayed.Given as goal
+use Rattle.vectors_c.proofs.replay_cases.Given as goal
 
 abbrev pub invariant-loop-at : goal.invariant-loop-at
 invariant-loop-at g l = record { cases_met : l.cases ≤ l.at; differing_met : l.differing ≤ l.at }
