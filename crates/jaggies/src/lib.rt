@@ -42,7 +42,8 @@ fn was(cells: &[i32], work: &[u32], w: usize, end: usize, q: usize) -> u32
     requires end_bound { q < end → get_or work.now (q + 3 * w - end) 0 ≤ most }
     ensures { (result ≡ paint_at cells.now work.now w end q) × (result ≤ most) }
 {
-    if q < end {
+    let replaced = q < end;
+    if replaced {
         return work[q + 3 * w - end];
     }
     paint(cells[q])

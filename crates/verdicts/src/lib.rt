@@ -45,7 +45,8 @@ pub fn verdict(work: &mut [u32], grid: Grid, palette: &[f64], by: Criteria, at: 
     ensures { Judged (rule_of grid by palette.now) (area_of grid) at work.old work.new result }
 {
     let n = grid.h * grid.w;
-    if work[6 * n + at] != 0 {
+    let decided = work[6 * n + at] != 0;
+    if decided {
         return 0;
     }
     let span = region_span(work, n, at);

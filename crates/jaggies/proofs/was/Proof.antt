@@ -6,18 +6,18 @@ use Rattle.jaggies.specs.Rows.{paint_at}
 use Rattle.jaggies.proofs.was.Statement.{statement}
 use Rattle.jaggies.proofs.was.Tie as tie
 
-returns : tie.Need-returns-then-q-end
+returns : tie.Need-returns-then-replaced
 unfolding paint_at
 returns c =
     let s = c.before.before.before in
-    let t = c.before.if-q-end.true in
+    let t = c.before.if-replaced.true in
     (rw (lt-ltb s.args.q s.args.end t), s.requires.1 t)
 
 returns-2 : tie.Need-returns
 unfolding paint_at
 returns-2 c =
     let p = rw (to_z-of_z (record { sfits = c.before.paint-arg-1.given })) at c.paint.ensures.0 in
-    (rw (le-ltb _ _ c.before.before.if-q-end.false) p, c.paint.ensures.1)
+    (rw (le-ltb _ _ c.before.before.if-replaced.false) p, c.paint.ensures.1)
 
 -- ---- what is asked on the way
 

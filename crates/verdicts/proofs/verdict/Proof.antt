@@ -39,24 +39,24 @@ sizes s = let p = s.requires.0 in record { few = sheet-few p.0; room = p.0.room;
 mul-n : tie.Need-overflow_mul-n
 mul-n c = omega (arith, sizes c.before.before.before)
 
-mul-if1 : tie.Need-overflow_mul-n-2
-mul-if1 c = omega (arith, sizes c.before.before.before)
+mul-decided : tie.Need-overflow_mul-decided
+mul-decided c = omega (arith, sizes c.before.before.before)
 
-add-if1 : tie.Need-overflow_add-n
-add-if1 c = omega (arith, sizes c.before.before.before)
+add-decided : tie.Need-overflow_add-decided
+add-decided c = omega (arith, sizes c.before.before.before)
 
-mul-if1-2 : tie.Need-offset_bounds-work-n
-mul-if1-2 c = omega (arith, sizes c.before.before.before)
+mul-decided-2 : tie.Need-offset_bounds-work-n
+mul-decided-2 c = omega (arith, sizes c.before.before.before)
 
-slice-read-if1 : tie.Need-bounds-work-n
-slice-read-if1 c = omega (arith, sizes c.before.before.before.before)
+slice-read-decided : tie.Need-bounds-work-n
+slice-read-decided c = omega (arith, sizes c.before.before.before.before)
 
 -- what is read is the group's number
 number_is : (s : tie.Start) → get_or (work s) (6 * n s + s.args.at) 0 ≡ plane (n s) 6 (work s) s.args.at
 number_is s = plane_read (n s) 6 s.args.at (6 * n s + s.args.at) (work s) (omega arith)
 
-returns : tie.Need-returns-then-work-n-ne0
-returns c = judged-done c.args.by c.args.palette.now c.requires.0.0 c.requires.1.1.0 c.requires.0.1 (λ e. c.if-work-n-ne0.true (number_is c.before.before.before.before.before ∙ e))
+returns : tie.Need-returns-then-decided
+returns c = judged-done c.args.by c.args.palette.now c.requires.0.0 c.requires.1.1.0 c.requires.0.1 (λ e. c.if-decided.true (number_is c.before.before.before.before.before ∙ e))
 
 region-span-requires : tie.Need-region_span-span-requires
 region-span-requires c κs = let z = sizes c.before.before.before.before.before in (z.room, z.few, c.requires.0.1)
@@ -112,10 +112,10 @@ slice-read-first c = let r = run c.before.before in omega (arith, r, r.sizes)
 cast-first : tie.Need-overflow_cast-first
 cast-first c = let r = run c.before.before in omega (arith, r, r.sizes)
 
-mul-if2 : tie.Need-overflow_mul-n-3
+mul-if2 : tie.Need-overflow_mul-n-2
 mul-if2 c = omega (arith, (run c.before.before).sizes)
 
-add-if2 : tie.Need-overflow_add-n-2
+add-if2 : tie.Need-overflow_add-n
 add-if2 c = let r = run c.before.before in omega (arith, r, r.sizes)
 
 mul-if2-2 : tie.Need-offset_bounds-work-n-3
@@ -124,27 +124,27 @@ mul-if2-2 c = let r = run c.before.before in omega (arith, r, r.sizes)
 slice-read-if2 : tie.Need-bounds-work-n-3
 slice-read-if2 c = let r = run c.before.before.before in omega (arith, r, r.sizes)
 
-same_length : tie.Need-shape_of-work-then-work-n-ne0-2
+same_length : tie.Need-shape_of-work-then-work-n-ne0
 same_length c = search rules
 
 -- what is read is whether the first place is large
 large_is : (c : tie.After-region_span-span) → get_or (work c.before.before.before.before.before.before) (5 * n c.before.before.before.before.before.before + first c) 0 ≡ plane (n c.before.before.before.before.before.before) 5 (work c.before.before.before.before.before.before) (lead c.before.before.before.before.before.before)
 large_is c = plane_read (n c.before.before.before.before.before.before) 5 (first c) (5 * n c.before.before.before.before.before.before + first c) (work c.before.before.before.before.before.before) (omega arith) ∙ ap (plane (n c.before.before.before.before.before.before) 5 (work c.before.before.before.before.before.before)) (run c).is
 
-returns-2 : tie.Need-returns-then-work-n-ne0-2
+returns-2 : tie.Need-returns-then-work-n-ne0
 returns-2 c =
-    judged_big c.args.by c.args.palette.now c.requires.0.0 c.requires.1.1.0 c.requires.0.1 (λ z. c.if-work-n-ne0-2.true (large_is c.before.before.before.before ∙ z))
+    judged_big c.args.by c.args.palette.now c.requires.0.0 c.requires.1.1.0 c.requires.0.1 (λ z. c.if-work-n-ne0.true (large_is c.before.before.before.before ∙ z))
 
 -- the group has no number, and its first place is not large
-pub record Open (c : tie.Else-work-n-ne0-2) : Type 0 where
+pub record Open (c : tie.Else-work-n-ne0) : Type 0 where
   pub free : plane (n c.before.before.before.before.before.before.before.before.before.before) 6 (work c.before.before.before.before.before.before.before.before.before.before) c.args.at ≡ 0
   pub little : plane (n c.before.before.before.before.before.before.before.before.before.before) 5 (work c.before.before.before.before.before.before.before.before.before.before) (lead c.before.before.before.before.before.before.before.before.before.before) ≡ 0
   pub fresh : (q : ℕ) → q < n c.before.before.before.before.before.before.before.before.before.before → plane (n c.before.before.before.before.before.before.before.before.before.before) 5 (work c.before.before.before.before.before.before.before.before.before.before) q ≡ c.args.at + 2 → ⊥
 
-waiting : (c : tie.Else-work-n-ne0-2) → Open c
+waiting : (c : tie.Else-work-n-ne0) → Open c
 waiting c =
-    let z = sym (number_is c.before.before.before.before.before.before.before.before.before.before) ∙ c.if-work-n-ne0.false in
-    record { free = z; little = sym (large_is c.before.before.before.before) ∙ c.if-work-n-ne0-2.false; fresh = c.requires.1.1.1 z }
+    let z = sym (number_is c.before.before.before.before.before.before.before.before.before.before) ∙ c.if-decided.false in
+    record { free = z; little = sym (large_is c.before.before.before.before) ∙ c.if-work-n-ne0.false; fresh = c.requires.1.1.1 z }
 
 large-around-requires : tie.Need-large_around-requires
 large-around-requires c κs = let r = run c.before.before.before.before in (r.sizes.room, r.sizes.few, c.requires.0.0.cols, r.stretch)
@@ -254,10 +254,10 @@ verdict_spec =
     tie.close
     (tie.spec
     mul-n
-    mul-if1
-    add-if1
-    mul-if1-2
-    slice-read-if1
+    mul-decided
+    add-decided
+    mul-decided-2
+    slice-read-decided
     returns
     region-span-requires
     mul-first
