@@ -1,4 +1,5 @@
 pub mod Places
 pub mod Outputs
+pub mod Numbers
 pub mod Refusals
 pub mod Doubles

@@ -1,27 +1,25 @@
 -- Refusals: rows of a number and a condition, in rising order, of which the first that applies is the answer. Definitions only. Assumes nothing.
-use Rattle.std.specs.Prelude.{ℕ, Bool, cond, List, [], ◌∷◌}
-use Rattle.std.proofs.Math.Option.{Option, none, some}
-use Rattle.base.specs.declared.Filling.{Filling}
-use Rattle.base.specs.declared.Filling.TheVariants.{Done, Refused}
+use Rattle.std.specs.Prelude.{Bool, cond, List, [], ◌∷◌, Option, None, Some, Result, Ok, Err}
+use Rattle.base.specs.declared.Refusal.{Refusal}
 
 -- one row of the table of refusals
 pub record Row : Type 0 where
-  pub number : ℕ
+  pub reason : Refusal
   pub applies : Bool
 
-abbrev pub row : ℕ → Bool → Row
-row n b = record { number = n; applies = b }
+abbrev pub row : Refusal → Bool → Row
+row r b = record { reason = r; applies = b }
 
--- the number of the first row that applies
-unfoldable pub refusal : List Row → Option ℕ
-refusal [] = none
-refusal (r ∷ rs) = cond r.applies (some r.number) (refusal rs)
+-- the first row that applies
+unfoldable pub refusal : List Row → Option Refusal
+refusal [] = None
+refusal (r ∷ rs) = cond r.applies (Some r.reason) (refusal rs)
 
--- what a call comes to: f of the refusal's number, or x
-unfoldable pub unless : {A : Type 0} → Option ℕ → (ℕ → A) → A → A
-unless none f x = x
-unless (some n) f x = f n
+-- what a call comes to: f of the refusal, or x
+unfoldable pub unless : {E A : Type 0} → Option E → (E → A) → A → A
+unless None f x = x
+unless (Some e) f x = f e
 
--- the answer of an entry that gives nothing but its outputs
-unfoldable pub filling : Option ℕ → Filling
-filling o = unless o Refused Done
+-- the answer of a call: the refusal, or x
+unfoldable pub answered : {A : Type 0} → Option Refusal → A → Result A Refusal
+answered o x = unless o Err (Ok x)

@@ -9,7 +9,7 @@ use mathlib.Core.Path.{◌≡◌, refl, sym, ap, ◌∙◌}
 use mathlib.Core.Logic.{◌⊎◌, inl, inr, ⊎_elim, ◌↔◌}
 use mathlib.Core.Bool.{Bool, true, false, not, ◌&&◌, ◌||◌, cond}
 use mathlib.Core.List.{List}
-use mathlib.Core.Option.{Option, none, some}
+use Rattle.std.specs.Prelude.{Option, None, Some}
 use native.Mathlib.Nat.{le_antisymm}
 use lib.IntN.{ℤ, negsuc}
 use lib.Dec.{eqb}
@@ -366,8 +366,8 @@ module _ (rule : Rule) (symm : Symmetric rule.adj) (s : State) (len : length s.c
       (λ z. rw z)
     where
       go : Pending rule s m → (o : Option ℕ) → target rule cells (index (at cells m)) (table n (voter rule (view rule s) m)) ≡ o → judged rule (index (at cells m)) o ≡ stay
-      go w none e = refl
-      go w (some c) e =
+      go w None e = refl
+      go w (Some c) e =
           let voters = table n (voter rule (view rule s) m) in
           let a = least_some _ _ _ c e in
           let b = frequent-voter rule (view rule s) voters c a.1 in

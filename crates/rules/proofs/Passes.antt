@@ -8,7 +8,7 @@ use mathlib.Core.Path.{◌≡◌, refl, sym, ap, ◌∙◌}
 use mathlib.Core.Logic.{◌⊎◌, inl, inr, ⊎_elim, ◌↔◌}
 use mathlib.Core.Bool.{Bool, true, false, not, ◌&&◌, ◌||◌, and-false, true≢false, false≢true}
 use mathlib.Core.List.{List}
-use mathlib.Core.Option.{Option, none, some}
+use Rattle.std.specs.Prelude.{Option, None, Some}
 use native.Mathlib.Nat.{le_trans, le_antisymm, le_of_suc-le-suc, lt_of_le_of_lt}
 use native.Mathlib.Omega.{arith}
 use lib.IntN.{ℤ, pos, negsuc}
@@ -35,10 +35,10 @@ module _ (rule : Rule) (v : View) where
       let w = count_yes rule.places (λ q. marked voters q && eqb (index (at v.cells q)) c) (leb_yes {m = 1} {n = votes rule v.cells voters c} (left _ _ e)) in
       (w.0, w.1, left _ _ w.2, eqb_yes (right (marked voters w.0) (eqb (index (at v.cells w.0)) c) w.2))
 
-  judged_merge : (own : ℕ) (o : Option ℕ) → merges (judged rule own o) ≡ true → (c : ℕ) × (o ≡ some c) × ((z : ℤ) → painted (judged rule own o) z ≡ pos c)
+  judged_merge : (own : ℕ) (o : Option ℕ) → merges (judged rule own o) ≡ true → (c : ℕ) × (o ≡ Some c) × ((z : ℤ) → painted (judged rule own o) z ≡ pos c)
   unfolding judged merges painted
-  judged_merge own none e = absurd (false≢true e)
-  judged_merge own (some c) e =
+  judged_merge own None e = absurd (false≢true e)
+  judged_merge own (Some c) e =
       case (lt (rule.dist own c) rule.reach) (λ y. (c, refl, λ z. rw y)) (λ z. absurd (false≢true (rw z at e)))
 
   -- a region that is repainted was pending, and takes the index of some voter
@@ -79,12 +79,12 @@ module _ (rule : Rule) (v : View) where
         both (yes_leb {m = 1} {n = votes rule v.cells voters (i p)} (count_some n (λ x. marked voters x && eqb (i x) (i p)) p w.1 (both w.2 (yes_eqb {m = i p} refl)))) (yes_eqb w.3),
       )
 
-  judged-cases : (own : ℕ) (o : Option ℕ) → (merges (judged rule own o) ≡ true) ⊎ ((freezes (judged rule own o) ≡ true) ⊎ (o ≡ none))
+  judged-cases : (own : ℕ) (o : Option ℕ) → (merges (judged rule own o) ≡ true) ⊎ ((freezes (judged rule own o) ≡ true) ⊎ (o ≡ None))
   unfolding judged merges freezes
-  judged-cases own none = inr (inr refl)
-  judged-cases own (some c) = case (lt (rule.dist own c) rule.reach) (λ y. inl (rw y)) (λ z. inr (inl (rw z)))
+  judged-cases own None = inr (inr refl)
+  judged-cases own (Some c) = case (lt (rule.dist own c) rule.reach) (λ y. inl (rw y)) (λ z. inr (inl (rw z)))
 
-  no_voter : (m own : ℕ) → ((p : ℕ) → p < rule.places → voter rule v m p ≡ true → opaque v.cells p ≡ true) → target rule v.cells own (table rule.places (voter rule v m)) ≡ none → (q : ℕ) → q < rule.places → voter rule v m q ≡ false
+  no_voter : (m own : ℕ) → ((p : ℕ) → p < rule.places → voter rule v m p ≡ true → opaque v.cells p ≡ true) → target rule v.cells own (table rule.places (voter rule v m)) ≡ None → (q : ℕ) → q < rule.places → voter rule v m q ≡ false
   unfolding target marked
   no_voter m own o e q h =
       let n = rule.places in

@@ -4,13 +4,13 @@ use mathlib.Core.Path.{◌≡◌, refl, sym, ap, ◌∙◌, subst}
 use mathlib.Core.Logic.{◌⊎◌, inl, inr, ⊎_elim}
 use mathlib.Core.Bool.{Bool, true}
 use mathlib.Core.List.{List, ◌∷◌}
-use mathlib.Core.Option.{none}
+use Rattle.std.specs.Prelude.{None}
 use native.Mathlib.Omega.{arith}
 use native.Mathlib.Nat.{le_trans}
 use lib.IntN.{ℤ, negsuc}
 use lib.ListN.{length, get_or, take}
 use lib.Seq.{take_all, get_or-take, length-take-le}
-use Rattle.base.specs.Refusals.{Row, refusal, unless}
+use Rattle.base.specs.Refusals.{Row, refusal, unless, answered}
 use Rattle.base.proofs.Counting.{clash, no_leb}
 use Rattle.base.proofs.Refusing.{rows_none}
 use Rattle.rules.specs.declared.Limits.{Limits}
@@ -20,7 +20,7 @@ use Rattle.rules.specs.Regions.{at, index, Symmetric}
 use Rattle.rules.specs.Pass.{Rule, State, small, smalls, fresh, Cleaned}
 use Rattle.rules.specs.Outline.{asked, pads}
 use Rattle.rules.specs.Calls.{OrphansCall, RunCall}
-use Rattle.rules.specs.Run.{rule_on, rule_for, clean_sheet, clean_sheet_if, limits_of, toned_palette, drawing_of, first_cleaning, outlined_run, cleans_again, second_cleaning, Result, process}
+use Rattle.rules.specs.Run.{rule_on, rule_for, clean_sheet, clean_sheet_if, limits_of, toned_palette, drawing_of, first_cleaning, outlined_run, cleans_again, second_cleaning, Processing, process}
 use Rattle.rules.specs.Rows.{too_short}
 use Rattle.rules.specs.Entries.{orphans_refusal, orphans_answer, orphans_cells, run_refusal, run_answer, run_cells, run_palette, facts_of}
 use Rattle.rules.specs.Claims.{Apart, KeepsOpaque}
@@ -34,7 +34,7 @@ use Rattle.rules.proofs.Sizes.{needed-least, front_over}
 use Rattle.rules.proofs.Opacity.{cleaned-alike, met_shown, run_shown, run_opaque}
 
 -- a call that is not refused by row 2 has its cells
-roomy : (r : Row) (len need : ℕ) (rs : List Row) → refusal (r ∷ too_short len need ∷ rs) ≡ none → need ≤ len
+roomy : (r : Row) (len need : ℕ) (rs : List Row) → refusal (r ∷ too_short len need ∷ rs) ≡ None → need ≤ len
 unfolding too_short
 roomy r len need rs e = let l = no_leb {m = suc len} {n = need} (rows_none _ rs (rows_none r _ e).1).0 in omega arith
 
@@ -154,7 +154,7 @@ module _ (palette : Palette) (limits : Limits) (s : Sheet) (len : length s.cells
 
 -- ---- `remove_orphans`
 
-module _ (c : OrphansCall) (accepted : orphans_refusal c ≡ none) where
+module _ (c : OrphansCall) (accepted : orphans_refusal c ≡ None) where
   abbrev called : Rule
   called = rule_for c.palette c.limits (sheet_in c.lent)
 
@@ -168,8 +168,8 @@ module _ (c : OrphansCall) (accepted : orphans_refusal c ≡ none) where
   any-passes = runs_agree called (ruled_both_ways c.palette c.limits (sheet_in c.lent)) (sheet_in c.lent).cells orphans_whole
 
   -- two accepted calls
-  pub two_calls : (q work : ℕ) → orphans_refusal (with_passes q work c) ≡ none → c.passes ≤ q → TwoCalls c q work
-  unfolding orphans_answer orphans_cells unless clean_sheet cleaned with_passes
+  pub two_calls : (q work : ℕ) → orphans_refusal (with_passes q work c) ≡ None → c.passes ≤ q → TwoCalls c q work
+  unfolding orphans_answer orphans_cells answered unless clean_sheet cleaned with_passes
   two_calls q work accepted' l =
       let start = (sheet_in c.lent).cells in
       let both_ways = ruled_both_ways c.palette c.limits (sheet_in c.lent) in
@@ -186,11 +186,11 @@ module _ (c : OrphansCall) (accepted : orphans_refusal c ≡ none) where
 
 -- ---- `run`
 
-module _ (c : RunCall) (accepted : run_refusal c ≡ none) where
+module _ (c : RunCall) (accepted : run_refusal c ≡ None) where
   abbrev came : Sheet
   came = sheet_in c.lent
 
-  abbrev result : Result
+  abbrev result : Processing
   result = process c
 
   -- the sheet as it came is whole, and so are the one that the second cleaning meets and the one left
@@ -212,7 +212,7 @@ module _ (c : RunCall) (accepted : run_refusal c ≡ none) where
 
   -- an accepted call
   pub run_promise : RunPromise c
-  unfolding run_answer run_palette unless facts_of process first_cleaning second_cleaning before_run after_run
+  unfolding run_answer run_palette answered unless facts_of process first_cleaning second_cleaning before_run after_run
   run_promise =
       let limits = limits_of c.config in
       record {

@@ -1,11 +1,9 @@
 -- The specification's examples M1 to M12, in their order. Definitions only. Assumes nothing.
-use Rattle.std.specs.Prelude.{ℕ, Bool, true, false, List, [], ◌∷◌, map, ℤ, pos, negsuc, Float}
+use Rattle.std.specs.Prelude.{ℕ, Bool, true, false, List, [], ◌∷◌, map, ℤ, pos, negsuc, Float, Option, Some, None}
 use Rattle.base.specs.Doubles.{decimal}
 use Rattle.rules.specs.declared.Outline.TheVariants.{Auto}
 use Rattle.rules.specs.declared.Drawing.{Drawing}
 use Rattle.rules.specs.declared.Limits.{Limits}
-use Rattle.rules.specs.declared.LineIndex.{LineIndex}
-use Rattle.rules.specs.declared.LineIndex.TheVariants.{Nothing, Entry}
 use Rattle.rules.specs.Sheet.{Sheet}
 use Rattle.rules.specs.Palette.{Palette}
 use Rattle.rules.specs.Corners.{trim}
@@ -23,7 +21,7 @@ pub data Call : Type 0 where
 pub data Outcome : Type 0 where
   cleaned : List ℤ → ℕ → Outcome
   trimmed : List ℤ → Outcome
-  outlined : ℕ → ℕ → List ℤ → LineIndex → Bool → Outcome
+  outlined : ℕ → ℕ → List ℤ → Option ℕ → Bool → Outcome
 
 unfoldable pub outcome : Call → Outcome
 outcome (cleans k palette limits s) = let t = clean_sheet k palette limits s in cleaned t.sheet.cells t.passes
@@ -102,6 +100,6 @@ cases =
     (trimmed (map pos (0 ∷ 0 ∷ 0 ∷ 1 ∷ 0 ∷ 1 ∷ 1 ∷ 0 ∷ 0 ∷ 1 ∷ 0 ∷ 0 ∷ [])))
     -- M11 and M12: outlines, padded and not
     ∷ case (outlines (dark_line true) Q single)
-    (outlined 3 3 (negsuc 0 ∷ pos 0 ∷ negsuc 0 ∷ pos 0 ∷ pos 0 ∷ pos 0 ∷ negsuc 0 ∷ pos 0 ∷ negsuc 0 ∷ []) (Entry 0) false)
-    ∷ case (outlines (dark_line false) Q single) (outlined 1 1 (pos 0 ∷ []) Nothing true)
+    (outlined 3 3 (negsuc 0 ∷ pos 0 ∷ negsuc 0 ∷ pos 0 ∷ pos 0 ∷ pos 0 ∷ negsuc 0 ∷ pos 0 ∷ negsuc 0 ∷ []) (Some 0) false)
+    ∷ case (outlines (dark_line false) Q single) (outlined 1 1 (pos 0 ∷ []) None true)
     ∷ []

@@ -1,6 +1,5 @@
 -- Corner trimming. Definitions only. Assumes nothing.
-use Rattle.std.specs.Prelude.{ℕ, ◌/◌, ◌%◌, Bool, false, not, ◌&&◌, ◌||◌, cond, List, [], ◌∷◌, eqb, ltb, ℤ, pos, negsuc, neg_ℤ, ◌+ℤ◌}
-use Rattle.std.proofs.Math.Option.{Option, none, some}
+use Rattle.std.specs.Prelude.{ℕ, ◌/◌, ◌%◌, Bool, false, not, ◌&&◌, ◌||◌, cond, List, [], ◌∷◌, eqb, ltb, ℤ, pos, negsuc, neg_ℤ, ◌+ℤ◌, Option, None, Some}
 use Rattle.std.specs.Int.Signed.{non_neg}
 use Rattle.base.specs.Places.{table}
 use Rattle.rules.specs.Sheet.{Sheet, area}
@@ -31,15 +30,15 @@ corners =
 module _ (s : Sheet) (p : ℕ) where
   -- the cell that a step from p finds; off the grid there is none
   unfoldable pub look : ℤ → ℤ → Option ℤ
-  look dy dx = elim (step_to s.height s.width (p / s.width) (p % s.width) dy dx) [ none ↦ none | some q ↦ some (at s.cells q) ]
+  look dy dx = elim (step_to s.height s.width (p / s.width) (p % s.width) dy dx) [ None ↦ None | Some q ↦ Some (at s.cells q) ]
 
   -- it is a; off the grid matches nothing
   unfoldable pub finds : ℤ → ℤ → ℤ → Bool
-  finds dy dx a = elim (look dy dx) [ none ↦ false | some b ↦ same b a ]
+  finds dy dx a = elim (look dy dx) [ None ↦ false | Some b ↦ same b a ]
 
   -- the cell that lies opposite the corner, a candidate for B; off the grid a transparent one stands in
   unfoldable pub opposite : Corner → ℤ
-  opposite c = elim (look (neg_ℤ c.sy) (neg_ℤ c.sx)) [ none ↦ negsuc 0 | some b ↦ b ]
+  opposite c = elim (look (neg_ℤ c.sy) (neg_ℤ c.sx)) [ None ↦ negsuc 0 | Some b ↦ b ]
 
   -- both arms of the corner are a
   unfoldable pub arms : Corner → ℤ → Bool

@@ -1,19 +1,12 @@
 -- The entries on sheets and palettes: for each its refusals, and what it answers and leaves in the lent lists. Definitions only. Assumes nothing.
-use Rattle.std.specs.Prelude.{ℕ, ◌≤◌, Bool, true, false, not, ◌||◌, List, [], ◌∷◌, ◌++◌, ltb, ℤ, length, Float}
-use Rattle.std.proofs.Math.Option.{Option}
-use Rattle.base.specs.Refusals.{Row, refusal, unless, filling}
-use Rattle.base.specs.declared.Filling.{Filling}
+use Rattle.std.specs.Prelude.{ℕ, ◌≤◌, Bool, true, false, not, ◌||◌, List, [], ◌∷◌, ◌++◌, ltb, ℤ, length, Float, Option, Result}
+use Rattle.base.specs.declared.Refusal.{Refusal}
+use Rattle.base.specs.Refusals.{Row, refusal, unless, answered}
 use Rattle.rules.specs.declared.Outline.{Outline}
 use Rattle.rules.specs.declared.Limits.{Limits}
 use Rattle.rules.specs.declared.PostConfig.{PostConfig}
-use Rattle.rules.specs.declared.LineIndex.{LineIndex}
 use Rattle.rules.specs.declared.Facts.{Facts}
-use Rattle.rules.specs.declared.Cleaning
-use Rattle.rules.specs.declared.Cleaning.{Cleaning}
-use Rattle.rules.specs.declared.Outlining
-use Rattle.rules.specs.declared.Outlining.{Outlining}
-use Rattle.rules.specs.declared.Processing
-use Rattle.rules.specs.declared.Processing.{Processing}
+use Rattle.rules.specs.declared.Processed.{Processed}
 use Rattle.rules.specs.Sheet.{Sheet, LentSheet, sheet_in, over, needed}
 use Rattle.rules.specs.Palette.{Palette, out_of_range, between, saturate}
 use Rattle.rules.specs.Corners.{trim}
@@ -32,7 +25,7 @@ lent_rows l padding = sheet_rows l.height l.width (needed l.height l.width paddi
 unfoldable pub bad_limits : Limits → ℕ → Bool
 bad_limits limits passes = not (between 0 1024 limits.colour) || ltb 65535 passes
 
-unfoldable pub orphans_refusal : OrphansCall → Option ℕ
+unfoldable pub orphans_refusal : OrphansCall → Option Refusal
 orphans_refusal c =
     refusal (
     lent_rows c.lent false
@@ -44,26 +37,26 @@ orphans_refusal c =
 abbrev pub orphans_made : OrphansCall → CleanedSheet
 orphans_made c = clean_sheet c.passes c.palette c.limits (sheet_in c.lent)
 
-unfoldable pub orphans_answer : OrphansCall → Cleaning
-orphans_answer c = unless (orphans_refusal c) Cleaning.TheVariants.Refused (Cleaning.TheVariants.Passes (orphans_made c).passes)
+unfoldable pub orphans_answer : OrphansCall → Result ℕ Refusal
+orphans_answer c = answered (orphans_refusal c) (orphans_made c).passes
 
 unfoldable pub orphans_cells : OrphansCall → List ℤ
 orphans_cells c = unless (orphans_refusal c) (λ n. c.lent.cells) (over (orphans_made c).sheet.cells c.lent.cells)
 
 -- ---- `fix_jaggies`
 
-unfoldable pub jaggies_refusal : JaggiesCall → Option ℕ
+unfoldable pub jaggies_refusal : JaggiesCall → Option Refusal
 jaggies_refusal c = refusal (lent_rows c.lent false)
 
-unfoldable pub jaggies_answer : JaggiesCall → Filling
-jaggies_answer c = filling (jaggies_refusal c)
+unfoldable pub jaggies_answer : JaggiesCall → Result Unit Refusal
+jaggies_answer c = answered (jaggies_refusal c) tt
 
 unfoldable pub jaggies_cells : JaggiesCall → List ℤ
 jaggies_cells c = unless (jaggies_refusal c) (λ n. c.lent.cells) (over (trim (sheet_in c.lent)).cells c.lent.cells)
 
 -- ---- `add_outline`
 
-unfoldable pub facts_of : Sheet → Palette → LineIndex → Bool → Facts
+unfoldable pub facts_of : Sheet → Palette → Option ℕ → Bool → Facts
 facts_of s palette index clipped =
     record {
       height = s.height;
@@ -83,7 +76,7 @@ pub record SizesInRange (f : Facts) : Type 0 where
 unfoldable pub bad_outline : Outline → Bool
 bad_outline outline = not (asked outline) || bad_darkening outline
 
-unfoldable pub outline_refusal : OutlineCall → Option ℕ
+unfoldable pub outline_refusal : OutlineCall → Option Refusal
 outline_refusal c =
     let s = sheet_in c.lent in
     let padding = pads c.how s in
@@ -97,11 +90,11 @@ outline_refusal c =
 abbrev pub outline_made : OutlineCall → Outlined
 outline_made c = outline (λ i. true) c.how c.palette (sheet_in c.lent)
 
-unfoldable pub outline_answer : OutlineCall → Outlining
+unfoldable pub outline_answer : OutlineCall → Result Facts Refusal
 outline_answer c =
-    unless (outline_refusal c) Outlining.TheVariants.Refused
+    answered (outline_refusal c)
     (let o = outline_made c in
-    Outlining.TheVariants.Drawn (facts_of o.sheet o.palette o.index o.clipped))
+    facts_of o.sheet o.palette o.index o.clipped)
 
 unfoldable pub outline_cells : OutlineCall → List ℤ
 outline_cells c = unless (outline_refusal c) (λ n. c.lent.cells) (over (outline_made c).sheet.cells c.lent.cells)
@@ -115,11 +108,11 @@ outline_palette c = unless (outline_refusal c) (λ n. c.palette.lab) (outline_ma
 unfoldable pub bad_saturation : Float → Palette → Bool
 bad_saturation beta palette = not (between 0 16 beta) || out_of_range (saturate beta palette)
 
-unfoldable pub saturation_refusal : Palette → Float → Option ℕ
+unfoldable pub saturation_refusal : Palette → Float → Option Refusal
 saturation_refusal palette beta = refusal (palette_rows palette (bad_saturation beta palette))
 
-unfoldable pub saturation_answer : Palette → Float → Filling
-saturation_answer palette beta = filling (saturation_refusal palette beta)
+unfoldable pub saturation_answer : Palette → Float → Result Unit Refusal
+saturation_answer palette beta = answered (saturation_refusal palette beta) tt
 
 unfoldable pub saturation_palette : Palette → Float → List Float
 saturation_palette palette beta = unless (saturation_refusal palette beta) (λ n. palette.lab) (saturate beta palette).lab
@@ -137,7 +130,7 @@ bad_ranges config =
 unfoldable pub bad_config : PostConfig → Bool → Palette → Bool
 bad_config config kept palette = bad_ranges config || out_of_range (toned kept config palette)
 
-unfoldable pub run_refusal : RunCall → Option ℕ
+unfoldable pub run_refusal : RunCall → Option Refusal
 run_refusal c =
     let s = sheet_in c.lent in
     let padding = pads (drawing_of c) s in
@@ -148,11 +141,11 @@ run_refusal c =
     ∷ no_entry (drawing_of c) c.palette (canvas padding s) ∷ []
     )
 
-unfoldable pub run_answer : RunCall → Processing
+unfoldable pub run_answer : RunCall → Result Processed Refusal
 run_answer c =
-    unless (run_refusal c) Processing.TheVariants.Refused
+    answered (run_refusal c)
     (let r = process c in
-    Processing.TheVariants.Processed (facts_of r.sheet r.palette r.index r.clipped) r.passes r.again)
+    record { facts = facts_of r.sheet r.palette r.index r.clipped; passes = r.passes; again = r.again })
 
 unfoldable pub run_cells : RunCall → List ℤ
 run_cells c = unless (run_refusal c) (λ n. c.lent.cells) (over (process c).sheet.cells c.lent.cells)

@@ -1,6 +1,5 @@
 -- The outline: padding, the ring, its colour and the palette entry that carries it. Definitions only. Assumes nothing.
-use Rattle.std.specs.Prelude.{ℕ, ◌+◌, ◌-◌, ◌*◌, ◌/◌, ◌%◌, Bool, true, false, not, ◌&&◌, cond, eqb, leb, ltb, ℤ, pos, negsuc, Float}
-use Rattle.std.proofs.Math.Option.{none, some}
+use Rattle.std.specs.Prelude.{ℕ, ◌+◌, ◌-◌, ◌*◌, ◌/◌, ◌%◌, Bool, true, false, not, ◌&&◌, cond, eqb, leb, ltb, ℤ, pos, negsuc, Float, None, Some, Option}
 use Rattle.base.specs.Places.{table, any}
 use Rattle.color.specs.declared.Lab.{Lab}
 use Rattle.color.specs.declared.Rgb8.{Rgb8}
@@ -9,8 +8,6 @@ use Rattle.color.specs.Lab.{distance, rgb8_to_lab, lab_to_rgb8}
 use Rattle.rules.specs.declared.Outline.{Outline}
 use Rattle.rules.specs.declared.Outline.TheVariants.{None, Auto, Rgb}
 use Rattle.rules.specs.declared.Drawing.{Drawing}
-use Rattle.rules.specs.declared.LineIndex.{LineIndex}
-use Rattle.rules.specs.declared.LineIndex.TheVariants.{Nothing, Entry}
 use Rattle.rules.specs.Sheet.{Sheet, area}
 use Rattle.rules.specs.Grid.{four, on_edge}
 use Rattle.rules.specs.Regions.{at, opaque}
@@ -73,7 +70,7 @@ inked s i =
 
 -- the first entry of least L, 0 where there is none
 unfoldable pub darkest : Palette → ℕ
-darkest palette = elim (first_least (λ i. true) (λ i. (colour palette i).l) palette.count) [ none ↦ 0 | some i ↦ i ]
+darkest palette = elim (first_least (λ i. true) (λ i. (colour palette i).l) palette.count) [ None ↦ 0 | Some i ↦ i ]
 
 -- each part times 1 - d
 unfoldable pub darkened : Float → Lab → Lab
@@ -91,7 +88,7 @@ line_colour palette (Rgb r g b) = rgb8_to_lab (record { r = r; g = g; b = b })
 -- of the entries that may be chosen the nearest to a colour, the lowest on ties, 0 where there is none
 unfoldable pub nearest_entry : (ℕ → Bool) → Palette → Lab → ℕ
 nearest_entry may palette c =
-    elim (first_least may (λ i. distance (colour palette i) c) palette.count) [ none ↦ 0 | some i ↦ i ]
+    elim (first_least may (λ i. distance (colour palette i) c) palette.count) [ None ↦ 0 | Some i ↦ i ]
 
 unfoldable pub same_rgb8 : Rgb8 → Rgb8 → Bool
 same_rgb8 x y = eqb x.r y.r && eqb x.g y.g && eqb x.b y.b
@@ -108,8 +105,8 @@ unfoldable pub choice : (ℕ → Bool) → Bool → Palette → Lab → Choice
 choice may true palette c = reuse (nearest_entry (λ i. true) palette c)
 choice may false palette c =
     elim (first_where (λ i. same_rgb8 (lab_to_rgb8 (colour palette i)) (lab_to_rgb8 c)) palette.count) [
-      | some i ↦ reuse i
-      | none ↦ cond (ltb palette.count 256) append (replace (nearest_entry may palette c))
+      | Some i ↦ reuse i
+      | None ↦ cond (ltb palette.count 256) append (replace (nearest_entry may palette c))
     ]
 
 -- the index that a choice gives, and the palette after it
@@ -128,7 +125,7 @@ chosen_palette palette c (replace i) = record { lab = recoloured palette.lab i c
 pub record Outlined : Type 0 where
   pub sheet : Sheet
   pub palette : Palette
-  pub index : LineIndex
+  pub index : Option ℕ
   pub clipped : Bool
 
 -- An outline on the sheet `on`, which is padded already: the ring takes the index that the choice gives; an empty one takes none and keeps
@@ -141,10 +138,10 @@ drawn may how palette clipped on =
     (record {
       sheet = inked on (chosen_index palette ch);
       palette = chosen_palette palette c ch;
-      index = Entry (chosen_index palette ch);
+      index = Some (chosen_index palette ch);
       clipped = clipped;
     })
-    (record { sheet = on; palette = palette; index = Nothing; clipped = clipped })
+    (record { sheet = on; palette = palette; index = None; clipped = clipped })
 
 -- an outline call: padding where it applies, then the ring. Clipped: an edge is touched and padding is not allowed.
 unfoldable pub outline : (ℕ → Bool) → Drawing → Palette → Sheet → Outlined

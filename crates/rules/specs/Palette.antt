@@ -1,6 +1,5 @@
 -- A palette, saturation, and the choice of one entry among several. Definitions only. Assumes nothing.
-use Rattle.std.specs.Prelude.{ℕ, zero, suc, ◌+◌, ◌*◌, ◌%◌, Bool, not, ◌&&◌, cond, List, eqb, get_or, set, Float}
-use Rattle.std.proofs.Math.Option.{Option, none, some}
+use Rattle.std.specs.Prelude.{ℕ, zero, suc, ◌+◌, ◌*◌, ◌%◌, Bool, not, ◌&&◌, cond, List, eqb, get_or, set, Float, Option, None, Some}
 use Rattle.std.specs.Float.{nan}
 use Rattle.std.specs.Float.Ieee.{lt, le}
 use Rattle.base.specs.Places.{any}
@@ -43,13 +42,13 @@ saturate beta palette =
 
 -- of the entries below k that may be chosen, the first with the least value
 unfoldable pub first_least : (ℕ → Bool) → (ℕ → Float) → ℕ → Option ℕ
-first_least may v zero = none
+first_least may v zero = None
 first_least may v (suc i) =
     cond (may i)
-    (elim (first_least may v i) [ none ↦ some i | some b ↦ some (cond (lt (v i) (v b)) i b) ])
+    (elim (first_least may v i) [ None ↦ Some i | Some b ↦ Some (cond (lt (v i) (v b)) i b) ])
     (first_least may v i)
 
 -- the first entry below k that passes a test
 unfoldable pub first_where : (ℕ → Bool) → ℕ → Option ℕ
-first_where t zero = none
-first_where t (suc i) = elim (first_where t i) [ none ↦ cond (t i) (some i) none | some b ↦ some b ]
+first_where t zero = None
+first_where t (suc i) = elim (first_where t i) [ None ↦ cond (t i) (Some i) None | Some b ↦ Some b ]

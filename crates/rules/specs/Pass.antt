@@ -1,7 +1,6 @@
 -- One pass of cleaning, and cleaning: small regions take the index that most cells of large regions around them have.
 -- Definitions only. Assumes nothing.
-use Rattle.std.specs.Prelude.{ℕ, zero, suc, Bool, true, false, not, ◌&&◌, ◌||◌, cond, List, eqb, ltb, ℤ, pos, get_or, Float}
-use Rattle.std.proofs.Math.Option.{Option, none, some}
+use Rattle.std.specs.Prelude.{ℕ, zero, suc, Bool, true, false, not, ◌&&◌, ◌||◌, cond, List, eqb, ltb, ℤ, pos, get_or, Float, Option, None, Some}
 use Rattle.std.specs.Int.Signed.{lt_z}
 use Rattle.std.specs.Float.Ieee.{lt}
 use Rattle.base.specs.Places.{table, any, count, greatest}
@@ -79,8 +78,8 @@ pub data Verdict : Type 0 where
 
 -- the verdict that a target gives a region of the index own
 unfoldable pub judged : Rule → ℕ → Option ℕ → Verdict
-judged rule own none = stay
-judged rule own (some c) =
+judged rule own None = stay
+judged rule own (Some c) =
     cond (lt (rule.dist own c) rule.reach) (merge c (rule.dist own c)) (freeze c (rule.dist own c))
 
 -- votes, by the list that says which places are voters

@@ -1,9 +1,7 @@
 -- What is promised of cleaning by any rule, and of accepted calls of `remove_orphans` and of `run`: which marks survive, and which cells are opaque. Definitions only. Assumes nothing.
-use Rattle.std.specs.Prelude.{ℕ, zero, suc, ◌≤◌, ◌<◌, ◌≡◌, ◌⊎◌, Bool, true, false, List, ℤ, take}
+use Rattle.std.specs.Prelude.{ℕ, zero, suc, ◌≤◌, ◌<◌, ◌≡◌, ◌⊎◌, Bool, true, false, List, ℤ, take, Ok}
 use Rattle.rules.specs.declared.Limits.{Limits}
 use Rattle.rules.specs.declared.Facts.{Facts}
-use Rattle.rules.specs.declared.Cleaning
-use Rattle.rules.specs.declared.Processing
 use Rattle.rules.specs.Sheet.{Sheet, lent_sheet, sheet_of, sheet_in}
 use Rattle.rules.specs.Palette.{Palette}
 use Rattle.rules.specs.Regions.{at, index, Joined}
@@ -98,8 +96,8 @@ with_passes q work c =
 pub record TwoCalls (c : OrphansCall) (q work : ℕ) : Type 0 where
   pub count : ℕ
   pub count' : ℕ
-  pub answers : orphans_answer c ≡ Cleaning.TheVariants.Passes count
-  pub answers' : orphans_answer (with_passes q work c) ≡ Cleaning.TheVariants.Passes count'
+  pub answers : orphans_answer c ≡ Ok count
+  pub answers' : orphans_answer (with_passes q work c) ≡ Ok count'
   pub agree : Agree (rule_for c.palette c.limits (sheet_in c.lent)) (sheet_in c.lent).cells
       (record { passes = c.passes; left = orphans_cells c; count = count })
       (record { passes = q; left = orphans_cells (with_passes q work c); count = count' })
@@ -133,7 +131,7 @@ pub record RunPromise (c : RunCall) : Type 0 where
   pub facts : Facts
   pub passes : ℕ
   pub again : ℕ
-  pub answers : run_answer c ≡ Processing.TheVariants.Processed facts passes again
+  pub answers : run_answer c ≡ Ok (record { facts = facts; passes = passes; again = again })
   -- each cleaning leaves the rule's cells, and its count is the rule's: the first meets the sheet as it came, the second the outlined one
   pub first : CleansIf c.config.remove_orphans (toned_palette c) (limits_of c.config) (sheet_in c.lent) 5 (first_cleaning c).sheet passes
   pub second : CleansIf (cleans_again c.config) (outlined_run c).palette (limits_of c.config) (outlined_run c).sheet 1 (after_run c facts) again

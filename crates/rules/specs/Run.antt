@@ -1,11 +1,9 @@
 -- Cleaning on a sheet, and `run`: saturation, cleaning, corners, outline, and cleaning once more. Definitions only. Assumes nothing.
-use Rattle.std.specs.Prelude.{ℕ, Bool, true, false, not, ◌&&◌, ◌||◌, cond, ℤ, pos}
+use Rattle.std.specs.Prelude.{ℕ, Bool, true, false, not, ◌&&◌, ◌||◌, cond, ℤ, pos, Option, None}
 use Rattle.color.specs.Lab.{distance}
 use Rattle.rules.specs.declared.Limits.{Limits}
 use Rattle.rules.specs.declared.Drawing.{Drawing}
 use Rattle.rules.specs.declared.PostConfig.{PostConfig}
-use Rattle.rules.specs.declared.LineIndex.{LineIndex}
-use Rattle.rules.specs.declared.LineIndex.TheVariants.{Nothing}
 use Rattle.rules.specs.Sheet.{Sheet, area, sheet_in}
 use Rattle.rules.specs.Grid.{eight}
 use Rattle.rules.specs.Pass.{Rule, fresh, clean}
@@ -74,7 +72,7 @@ drawing_of c =
 unfoldable pub outline_if : (ℕ → Bool) → Drawing → Palette → Sheet → Outlined
 outline_if may how palette s =
     cond (asked how.outline) (outline may how palette s)
-    (record { sheet = s; palette = palette; index = Nothing; clipped = false })
+    (record { sheet = s; palette = palette; index = None; clipped = false })
 
 -- ---- `run`
 
@@ -95,16 +93,16 @@ cleans_again config = config.remove_orphans && asked config.outline
 unfoldable pub second_cleaning : PostConfig → Outlined → CleanedSheet
 second_cleaning config o = clean_sheet_if (cleans_again config) 1 o.palette (limits_of config) o.sheet
 
-pub record Result : Type 0 where
+pub record Processing : Type 0 where
   pub sheet : Sheet
   pub palette : Palette
-  pub index : LineIndex
+  pub index : Option ℕ
   pub clipped : Bool
   pub passes : ℕ
   pub again : ℕ
 
 -- what `run` comes to
-unfoldable pub process : RunCall → Result
+unfoldable pub process : RunCall → Processing
 process c =
     let line = outlined_run c in
     let second = second_cleaning c.config line in
