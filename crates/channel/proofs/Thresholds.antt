@@ -1,12 +1,12 @@
 -- The thresholds rise, so a channel's byte is found by halving, and a byte's decoded value is given that byte again. Assumes nothing.
-use Prim.Native.Nat.{ℕ, zero, suc, ◌+◌, ◌-◌, ◌/◌, ◌≤◌, ◌<◌, zero-le}
+use Prim.Native.Nat.{ℕ, zero, suc, ◌+◌, ◌-◌, ◌*◌, ◌≤◌, ◌<◌, zero-le}
 use mathlib.Core.Path.{◌≡◌, sym, ap, ◌∙◌, subst}
 use mathlib.Core.Logic.{inl, inr}
-use mathlib.Core.Bool.{Bool, true, false}
+use mathlib.Core.Bool.{Bool, true, false, ◌&&◌}
 use native.Mathlib.Nat.{le_refl, le_trans, le_of_eq, le_of_suc-le-suc, suc_inj, lt_trans, lt_of_le_of_lt, lt_of_lt_of_le, le_of_lt, eq-or-lt_of_le, not-suc-le-zero, not-le_of_lt, le_step, lt-suc_self}
-use mathlib.Core.List.{List, ◌∷◌}
+use mathlib.Core.List.{List, [], ◌∷◌}
 use native.Mathlib.Omega.{arith}
-use lib.Dec.{T, ltb, leb, ltb→lt, leb→le, lit<}
+use lib.Dec.{T, ltb, leb, eqb, ltb→lt, leb→le, eqb→eq, lit<}
 use lib.ListN.{get_or}
 use lib.Ieee.{Float, binary64, of_bits, le, lt}
 use lib.Ieee.Fits.{and_l, and_r}
@@ -14,7 +14,8 @@ use Rattle.base.specs.Places.{count}
 use Rattle.base.proofs.Counting.{case, clash, from_T, to_T, get_d_within}
 use Rattle.roots.specs.Units.{limit}
 use Rattle.roots.proofs.Unique.{bits→lt}
-use Rattle.channel.specs.Channel.{Decoded, Threshold, ThresholdTable, decode_of, threshold_of, byte_of}
+use Rattle.channel.specs.Channel.{Decoded, Threshold, decode_of, threshold_of, byte_of}
+use Rattle.channel.proofs.Entries.{at}
 use Rattle.channel.proofs.Patterns.{pattern_positive, pattern→le, le→pattern, le_through}
 use Rattle.channel.proofs.Tests.{decodes_fit, decodes-rule, decoded-is, bounds_fit, bounds-rule, threshold_is, between}
 use Rattle.channel.proofs.Tables.{threshold_table, decode_pattern, threshold_pattern, decode_test, threshold_test, rise_test, between_test}
@@ -71,14 +72,9 @@ pattern_pos i h = lt_of_lt_of_le (lit< tt) (patterns_climb 0 i zero-le h)
 unfoldable pub passes : Float → ℕ → Bool
 passes c i = le (threshold_of (i + 1)) c
 
-passes_at : (c : Float) (i : ℕ) → i < 255 → passes c i ≡ le (of_bits binary64 (threshold_pattern i)) c
+pub passes_at : (c : Float) (i : ℕ) → i < 255 → passes c i ≡ le (of_bits binary64 (threshold_pattern i)) c
 unfolding passes
 passes_at c i h = ap (λ (y : Float). le y c) (sym (entry-is i h))
-
--- the same read from a table
-pub passes_by : {l : List ℕ} → ThresholdTable l → (c : Float) (i : ℕ) → i < 255 → passes c i ≡ le (of_bits binary64 (get_or l i 0)) c
-unfolding passes
-passes_by t c i h = ap (λ (y : Float). le y c) (sym (t.entry i h))
 
 pub earlier : (c : Float) (i j : ℕ) → i ≤ j → j < 255 → passes c j ≡ true → passes c i ≡ true
 earlier c i j l h t =
@@ -150,25 +146,67 @@ pub record Sought (c : Float) (n gap : ℕ) : Type 0 where
 pub sought_start : (c : Float) → Sought c 0 256
 sought_start c = record { passed = λ i l. absurd (not-suc-le-zero l); failed = λ i l m. absurd (omega arith); some = omega arith; room = omega arith }
 
-pub sought_hit : (c : Float) (n gap : ℕ) → Sought c n gap → 1 < gap → passes c (n + gap / 2 - 1) ≡ true → Sought c (n + gap / 2) (gap - gap / 2)
-sought_hit c n gap s h t =
+pub sought_hit : (c : Float) (n half : ℕ) → Sought c n (2 * half) → 0 < half → passes c (n + half - 1) ≡ true → Sought c (n + half) half
+sought_hit c n half s h t =
     let r = s.room in
     record {
-      passed = λ i l. earlier c i (n + gap / 2 - 1) (omega arith) (omega arith) t;
+      passed = λ i l. earlier c i (n + half - 1) (omega arith) (omega arith) t;
       failed = λ i l m. s.failed i (omega arith) m;
-      some = omega arith;
+      some = h;
       room = omega arith;
     }
 
-pub sought_miss : (c : Float) (n gap : ℕ) → Sought c n gap → 1 < gap → passes c (n + gap / 2 - 1) ≡ false → Sought c n (gap - gap / 2)
-sought_miss c n gap s h z =
+pub sought_miss : (c : Float) (n half : ℕ) → Sought c n (2 * half) → 0 < half → passes c (n + half - 1) ≡ false → Sought c n half
+sought_miss c n half s h z =
     let r = s.room in
     record {
       passed = s.passed;
-      failed = λ i l m. later c (n + gap / 2 - 1) i (omega arith) m z;
-      some = omega arith;
+      failed = λ i l m. later c (n + half - 1) i (omega arith) m z;
+      some = h;
       room = omega arith;
     }
 
-pub sought_end : (c : Float) (n gap : ℕ) → Sought c n gap → gap ≤ 1 → n ≡ byte_of c
-sought_end c n gap s h = let r = s.room in let e = s.some in byte_is c n (omega arith) s.passed (λ i l m. s.failed i (omega arith) m)
+pub sought_end : (c : Float) (n : ℕ) → Sought c n 1 → n ≡ byte_of c
+sought_end c n s = let r = s.room in byte_is c n (omega arith) s.passed (λ i l m. s.failed i (omega arith) m)
+
+-- ---- the halves of the gap, in turn
+
+unfoldable pub halves : List ℕ
+halves = 128 ∷ 64 ∷ 32 ∷ 16 ∷ 8 ∷ 4 ∷ 2 ∷ 1 ∷ []
+
+-- the gap before the turn i, and after the last
+unfoldable pub gap_at : ℕ → ℕ
+gap_at i = get_or (256 ∷ halves) i 0
+
+-- half of the gap before the turn i, and the gap after it
+pub record Half (i half : ℕ) : Type 0 where
+  pub some : 0 < half
+  pub before : gap_at i ≡ 2 * half
+  pub after : gap_at (i + 1) ≡ half
+
+abbrev is_half : ℕ → ℕ → Bool
+is_half i half = ltb 0 half && (eqb (gap_at i) (2 * half) && eqb (gap_at (i + 1)) half)
+
+is_half-fact : (i half : ℕ) → T (is_half i half) → Half i half
+is_half-fact i half t =
+    let u = and_r (ltb 0 half) _ t in
+    record {
+      some = ltb→lt 0 half (and_l (ltb 0 half) _ t);
+      before = eqb→eq (gap_at i) (2 * half) (and_l (eqb (gap_at i) (2 * half)) _ u);
+      after = eqb→eq (gap_at (i + 1)) half (and_r (eqb (gap_at i) (2 * half)) _ u);
+    }
+
+pub half_at : (i : ℕ) → i < 8 → Half i (get_or halves i 0)
+unfolding halves gap_at
+half_at i h = is_half-fact i (get_or halves i 0) (at is_half halves tt i h)
+
+-- the threshold half way passes, or it does not
+pub half_hit : {c : Float} {n i half : ℕ} → Sought c n (gap_at i) → Half i half → passes c (n + half - 1) ≡ true → Sought c (n + half) (gap_at (i + 1))
+half_hit {c} {n} {i} {half} s h t = rw h.after (sought_hit c n half (rw h.before at s) h.some t)
+
+pub half_miss : {c : Float} {n i half : ℕ} → Sought c n (gap_at i) → Half i half → passes c (n + half - 1) ≡ false → Sought c n (gap_at (i + 1))
+half_miss {c} {n} {i} {half} s h z = rw h.after (sought_miss c n half (rw h.before at s) h.some z)
+
+-- that threshold is there
+pub half_inside : {c : Float} {n i half : ℕ} → Sought c n (gap_at i) → Half i half → n + half - 1 < 255
+half_inside {c} {n} {i} {half} s h = let r = s.room in let e = h.before in let p = h.some in omega arith

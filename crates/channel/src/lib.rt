@@ -4,7 +4,7 @@
 ghost use Rattle.std.specs.Prelude.{◌≡◌};
 ghost use Rattle.channel.specs.Channel.{decode_of, byte_of, DecodeTable, ThresholdTable};
 
-const DECODE: [u64; 256] = [
+static DECODE: [u64; 256] = [
     0x0000000000000000,
     0x3f33e45677c176f7,
     0x3f43e45677c176f7,
@@ -263,7 +263,7 @@ const DECODE: [u64; 256] = [
     0x3ff0000000000000,
 ];
 
-const THRESHOLDS: [u64; 255] = [
+static THRESHOLDS: [u64; 255] = [
     0x3f23e45677c176f7,
     0x3f3dd681b3a23272,
     0x3f48dd6c15b1d4b5,
@@ -521,41 +521,36 @@ const THRESHOLDS: [u64; 255] = [
     0x3fefdb81b627af91,
 ];
 
-// The table of what each byte decodes to. Whoever decodes many bytes makes it once.
-pub fn decode_table() -> [u64; 256]
-    ensures { DecodeTable result }
+// The table of what each byte decodes to.
+pub fn decode_table() -> &'static [u64; 256]
+    ensures { DecodeTable result.now }
 {
-    DECODE
+    &DECODE
 }
 
 // The table of the thresholds.
-pub fn threshold_table() -> [u64; 255]
-    ensures { ThresholdTable result }
+pub fn threshold_table() -> &'static [u64; 255]
+    ensures { ThresholdTable result.now }
 {
-    THRESHOLDS
+    &THRESHOLDS
 }
 
 // What the byte k decodes to.
-pub fn decoded(table: &[u64], k: u8) -> f64
-    requires { DecodeTable table.now }
+pub fn decoded(k: u8) -> f64
     ensures { result ≡ decode_of k }
 {
-    f64::from_bits(table[k as usize])
+    f64::from_bits(DECODE[k as usize])
 }
 
 // A channel's byte: the number of thresholds that are not above it. They rise, so the number is found by halving the gap in which it lies.
-pub fn byte(table: &[u64], c: f64) -> u8
-    requires { ThresholdTable table.now }
+pub fn byte(c: f64) -> u8
     ensures { result ≡ byte_of c }
 {
-    let mut n = 0usize;
-    let mut gap = 256usize;
-    while gap > 1 {
-        let half = gap / 2;
-        if f64::from_bits(table[n + half - 1]) <= c {
-            n = n + half;
+    let mut n = 0;
+    for half in [128, 64, 32, 16, 8, 4, 2, 1] {
+        if f64::from_bits(THRESHOLDS[n + half - 1]) <= c {
+            n += half;
         }
-        gap = gap - half;
     }
     n as u8
 }

@@ -2,10 +2,9 @@
 ghost use Rattle.std.specs.Prelude.{◌≡◌, ◌+◌, ◌*◌, ◌<◌, length};
 ghost use Rattle.std.specs.Float.Ieee.{lt};
 ghost use Rattle.color.specs.Lab.{entry, within, dist2, distance, dot, mat_vec, lab_f, lab_f_inv, lab_of_xyz, xyz_of_lab, rgb8_to_lab, lab_to_rgb8};
-ghost use Rattle.channel.specs.Channel.{DecodeTable, ThresholdTable};
 
 use crate::{Lab, Rgb8};
-use channel::{byte, decode_table, decoded, threshold_table};
+use channel::{byte, decoded};
 
 // Linear sRGB to XYZ.
 const XYZ_FROM_RGB: [[f64; 3]; 3] = [
@@ -87,13 +86,11 @@ fn dot(v: [f64; 3], m: [f64; 3]) -> f64
     v[0] * m[0] + v[1] * m[1] + v[2] * m[2]
 }
 
-// The product of a matrix with a vector. Each row is copied out by value.
+// The product of a matrix with a vector.
 fn mat_vec(m: [[f64; 3]; 3], v: [f64; 3]) -> [f64; 3]
     ensures { result ≡ mat_vec m v }
 {
-    let x = m[0];
-    let y = m[1];
-    let z = m[2];
+    let [x, y, z] = m;
     [dot(v, x), dot(v, y), dot(v, z)]
 }
 
@@ -150,44 +147,22 @@ fn xyz_of_lab(c: Lab) -> [f64; 3]
     ]
 }
 
-// A colour of sRGB as one of CIELAB, by a table that was made before.
-pub fn rgb8_to_lab_by(table: &[u64], c: Rgb8) -> Lab
-    requires { DecodeTable table.now }
-    ensures { result ≡ rgb8_to_lab c }
-{
-    let lin = [
-        decoded(table, c.r),
-        decoded(table, c.g),
-        decoded(table, c.b),
-    ];
-    lab_of_xyz(mat_vec(XYZ_FROM_RGB, lin))
-}
-
-// A colour of CIELAB as one of sRGB, cut to the range of a byte, by a table that was made before.
-pub fn lab_to_rgb8_by(table: &[u64], c: Lab) -> Rgb8
-    requires { ThresholdTable table.now }
-    ensures { result ≡ lab_to_rgb8 c }
-{
-    let lin = mat_vec(RGB_FROM_XYZ, xyz_of_lab(c));
-    Rgb8 {
-        r: byte(table, lin[0]),
-        g: byte(table, lin[1]),
-        b: byte(table, lin[2]),
-    }
-}
-
-// One colour of sRGB as one of CIELAB.
+// A colour of sRGB as one of CIELAB.
 pub fn rgb8_to_lab_one(c: Rgb8) -> Lab
     ensures { result ≡ rgb8_to_lab c }
 {
-    let table = decode_table();
-    rgb8_to_lab_by(&table, c)
+    let lin = [decoded(c.r), decoded(c.g), decoded(c.b)];
+    lab_of_xyz(mat_vec(XYZ_FROM_RGB, lin))
 }
 
-// One colour of CIELAB as one of sRGB.
+// A colour of CIELAB as one of sRGB, cut to the range of a byte.
 pub fn lab_to_rgb8_one(c: Lab) -> Rgb8
     ensures { result ≡ lab_to_rgb8 c }
 {
-    let table = threshold_table();
-    lab_to_rgb8_by(&table, c)
+    let [r, g, b] = mat_vec(RGB_FROM_XYZ, xyz_of_lab(c));
+    Rgb8 {
+        r: byte(r),
+        g: byte(g),
+        b: byte(b),
+    }
 }

@@ -4,7 +4,7 @@
 pub mod cielab;
 
 // A colour in CIELAB.
-#[derive(Clone, Copy)]
+#[derive(Clone, Copy, Debug, PartialEq)]
 pub struct Lab {
     pub l: f64,
     pub a: f64,
@@ -12,7 +12,7 @@ pub struct Lab {
 }
 
 // A colour in sRGB, a byte for each channel.
-#[derive(Clone, Copy)]
+#[derive(Clone, Copy, Debug, PartialEq, Eq)]
 pub struct Rgb8 {
     pub r: u8,
     pub g: u8,
