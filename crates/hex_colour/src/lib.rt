@@ -1,118 +1,80 @@
 // Colours written as six hexadecimal digits.
 #![tactic(auto)]
 
-ghost use Rattle.std.specs.Prelude.{◌≡◌, true, reverse, ◌+◌, ◌<◌, length};
-ghost use Rattle.hex_colour.specs.Hex.{space, mark, drop_while, digit, pair, all_digits, six_digits, hex_to_rgb8};
+ghost use Rattle.std.specs.Prelude.{◌≡◌, ℕ, Bool, reverse, ◌+◌, ◌*◌, ◌<◌};
+ghost use Rattle.std.specs.Option.{SomeIff};
+ghost use Rattle.hex_colour.specs.Hex.{space, mark, drop_while, Computes, digit, six_digits, hex_to_rgb8};
 
+use base::Refusal;
 use color::Rgb8;
-
-// What a text is read as: a colour, or a refusal's number.
-#[derive(Clone, Copy)]
-pub enum Hex {
-    Colour(Rgb8),
-    Refused(u8),
-}
 
 // A space, or one of the codes 9 to 13.
 fn is_space(c: u8) -> bool
     ensures { result ≡ space c }
 {
-    match c {
-        9..=13 | 32 => true,
-        _ => false,
-    }
+    matches!(c, 9..=13 | b' ')
 }
 
-// The text from its first byte that is no white space on.
-fn without_leading_space(text: &[u8]) -> &[u8]
-    ensures { result.now ≡ drop_while space text.now }
+// Whether a byte is `#`.
+fn is_mark(c: u8) -> bool
+    ensures { result ≡ mark c }
 {
-    let mut i = 0;
-    while i < text.len() && is_space(text[i]) {
-        i += 1;
-    }
-    &text[i..]
+    c == b'#'
+}
+
+// The text from its first byte on that fails the test.
+fn without_leading<F: Fn(u8) -> bool>(text: &[u8], test: F) -> &[u8]
+    requires { F.IsAlwaysCallable test }
+    ensures { (t : ℕ → Bool) → Computes F.Fn t test → result.now ≡ drop_while t text.now }
+{
+    let start = text.iter().take_while(|c| test(**c)).count();
+    &text[start..]
 }
 
 // The text up to its last byte that is no white space.
 fn without_trailing_space(text: &[u8]) -> &[u8]
     ensures { result.now ≡ reverse (drop_while space (reverse text.now)) }
 {
-    let mut end = text.len();
-    while end > 0 && is_space(text[end - 1]) {
-        end -= 1;
-    }
-    &text[..end]
+    let spaces = text.iter().rev().take_while(|c| is_space(**c)).count();
+    &text[..text.len() - spaces]
 }
 
-// The text from its first byte that is no `#` on.
-fn without_marks(text: &[u8]) -> &[u8]
-    ensures { result.now ≡ drop_while mark text.now }
-{
-    let mut i = 0;
-    while i < text.len() && text[i] == b'#' {
-        i += 1;
-    }
-    &text[i..]
-}
+// The base of hex digits.
+const BASE: u32 = 16;
 
-// The last small letter that is a hex digit.
-const LAST_SMALL: u8 = b'f';
-
-// The value of a hex digit, 16 for any other byte.
-fn digit(c: u8) -> u8
-    ensures { result ≡ digit c }
+// The value of a hex digit.
+fn digit(c: u8) -> Option<u32>
+    ensures { SomeIff result (digit c < 16) (digit c) }
 {
-    match c {
-        b'0'..=b'9' => c - b'0',
-        b'a'..=b'z' => if c <= LAST_SMALL { c - b'a' + 10 } else { 16 },
-        b'A'..=b'F' => c - b'A' + 10,
-        _ => 16,
-    }
-}
-
-// Whether a text has hex digits alone.
-fn all_digits(text: &[u8]) -> bool
-    ensures { result ≡ all_digits text.now }
-{
-    let mut i = 0;
-    while i < text.len() {
-        if digit(text[i]) == 16 {
-            return false;
-        }
-        i += 1;
-    }
-    true
+    char::from(c).to_digit(BASE)
 }
 
 // The number that two digits write.
-fn pair(text: &[u8], i: usize) -> u8
-    requires { (all_digits text.now ≡ true) × (i + 1 < length text.now) }
-    ensures { result ≡ pair text.now i }
+fn pair(high: u8, low: u8) -> Option<u8>
+    ensures { SomeIff result ((digit high < 16) × (digit low < 16)) (digit high * 16 + digit low) }
 {
-    digit(text[i]) * 16 + digit(text[i + 1])
+    let number = digit(high)? * 16 + digit(low)?;
+    Some(number as u8)
 }
 
-// Six digits make a colour, anything else is refused.
-fn six_digits(text: &[u8]) -> Hex
+// Six digits make a colour.
+fn six_digits(text: &[u8]) -> Option<Rgb8>
     ensures { result ≡ six_digits text.now }
 {
-    if text.len() != 6 {
-        return Hex::Refused(9);
-    }
-    if !all_digits(text) {
-        return Hex::Refused(9);
-    }
-    Hex::Colour(Rgb8 {
-        r: pair(text, 0),
-        g: pair(text, 2),
-        b: pair(text, 4),
+    let [r1, r0, g1, g0, b1, b0] = text else {
+        return None;
+    };
+    Some(Rgb8 {
+        r: pair(*r1, *r0)?,
+        g: pair(*g1, *g0)?,
+        b: pair(*b1, *b0)?,
     })
 }
 
 // The colour that a text names: six hex digits, after white space at both ends and then leading `#` are dropped.
-pub fn hex_to_rgb8(text: &[u8]) -> Hex
+pub fn hex_to_rgb8(text: &[u8]) -> Result<Rgb8, Refusal>
     ensures { result ≡ hex_to_rgb8 text.now }
 {
-    six_digits(without_marks(without_trailing_space(without_leading_space(text))))
+    let trimmed = without_trailing_space(without_leading(text, is_space));
+    six_digits(without_leading(trimmed, is_mark)).ok_or(Refusal::NotHex)
 }
