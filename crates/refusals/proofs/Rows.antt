@@ -4,12 +4,13 @@ use mathlib.Core.Path.{◌≡◌, ◌∙◌}
 use mathlib.Core.Logic.{⊎_elim}
 use mathlib.Core.Bool.{Bool, true, false, not, ◌||◌}
 use mathlib.Core.List.{List, [], ◌∷◌, ◌++◌}
-use mathlib.Core.Option.{none}
+use Rattle.std.specs.Prelude.{None}
 use native.Mathlib.Nat.{mul-le-mul, min-le_left, min-le_right}
 use native.Mathlib.Omega.{arith}
 use borrow.Author.Tests.{ltb-true, ltb-false, lt-ltb, eqb-true, not-false}
 use lib.Dec.{ltb, eqb}
 use lib.ListN.{length}
+use Rattle.base.specs.declared.Refusal.TheVariants.{ListTooShort, SettingOutOfRange}
 use Rattle.base.specs.Refusals.{Row, row, refusal}
 use Rattle.base.proofs.Counting.{same_test, either, neither, or_left, or_right, min-is}
 use Rattle.base.proofs.Refusing.{rows_none, rows_same, rows_either}
@@ -38,7 +39,7 @@ few-needed h w true e =
     mul-le-mul high wide
 few-needed h w false e = omega (arith, few-cells h w e)
 
-pub sheet_room : {h w need lent work : ℕ} (more : List Row) → refusal (sheet_rows h w need lent work ++ more) ≡ none → Room h w need lent work × (refusal more ≡ none)
+pub sheet_room : {h w need lent work : ℕ} (more : List Row) → refusal (sheet_rows h w need lent work ++ more) ≡ None → Room h w need lent work × (refusal more ≡ None)
 unfolding too_short cramped
 sheet_room {h} {w} {need} {lent} {work} more e =
     let one = rows_none (too_large h w) _ e in
@@ -62,9 +63,9 @@ pub shorter_list : (h w lent out work : ℕ) → refusal (sheet_rows h w (h * w)
 unfolding grid_refusal too_short
 shorter_list h w lent out work =
     rows_same (too_large h w ∷ []) (too_short (min lent out) (h * w) ∷ cramped work (h * w) ∷ []) (too_short lent (h * w) ∷ too_short out (h * w) ∷ cramped work (h * w) ∷ [])
-    (rw (short_either lent out (h * w)) (rows_either 2 (ltb lent (h * w)) (ltb out (h * w)) (cramped work (h * w) ∷ [])))
+    (rw (short_either lent out (h * w)) (rows_either ListTooShort (ltb lent (h * w)) (ltb out (h * w)) (cramped work (h * w) ∷ [])))
 
-pub grid_room : {h w lent out work : ℕ} → grid_refusal h w lent out work [] ≡ none → Room h w (h * w) lent work × (h * w ≤ out)
+pub grid_room : {h w lent out work : ℕ} → grid_refusal h w lent out work [] ≡ None → Room h w (h * w) lent work × (h * w ≤ out)
 grid_room {h} {w} {lent} {out} {work} e =
     let r = (sheet_room {lent = min lent out} [] (shorter_list h w lent out work ∙ e)).0 in (
       record { high = r.high; wide = r.wide; few = r.few; held = omega (arith, r.held, min-le_left lent out); free = r.free },
@@ -79,7 +80,7 @@ good_palette palette e =
     let k = neither (ltb 256 palette.count) (not (eqb (length palette.lab) 768)) e in
     (ltb-false 256 palette.count k.0, eqb-true (length palette.lab) 768 (not-false _ k.1))
 
-pub palette_room : {palette : Palette} {bad : Bool} (more : List Row) → refusal (palette_rows palette bad ++ more) ≡ none → Usable palette bad × (refusal more ≡ none)
+pub palette_room : {palette : Palette} {bad : Bool} (more : List Row) → refusal (palette_rows palette bad ++ more) ≡ None → Usable palette bad × (refusal more ≡ None)
 unfolding bad_colour bad_setting
 palette_room {palette} {bad} more e =
     let four = rows_none (bad_palette palette) _ e in
@@ -91,7 +92,7 @@ palette_room {palette} {bad} more e =
     )
 
 -- row 6 of two conditions is row 6 of the first and then of the second
-pub setting_in_two : (palette : Palette) (a b : Bool) → refusal (palette_rows palette (a || b)) ≡ refusal (palette_rows palette a ++ row 6 b ∷ [])
+pub setting_in_two : (palette : Palette) (a b : Bool) → refusal (palette_rows palette (a || b)) ≡ refusal (palette_rows palette a ++ row SettingOutOfRange b ∷ [])
 unfolding bad_setting
 setting_in_two palette a b =
-    rows_same (bad_palette palette ∷ bad_colour palette ∷ []) (row 6 (a || b) ∷ []) (row 6 a ∷ row 6 b ∷ []) (rows_either 6 a b [])
+    rows_same (bad_palette palette ∷ bad_colour palette ∷ []) (row SettingOutOfRange (a || b) ∷ []) (row SettingOutOfRange a ∷ row SettingOutOfRange b ∷ []) (rows_either SettingOutOfRange a b [])

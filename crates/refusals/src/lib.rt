@@ -1,11 +1,11 @@
 // The refusals that entries share: rows 1 to 3 and rows 4 to 6, and the conditions of the rows, each a function that answers whether its row applies.
 #![tactic(auto)]
 
-ghost use Rattle.std.specs.Prelude.{◌≡◌, [], ◌*◌, ◌≤◌, min, ◌&&◌, pos, length};
+ghost use Rattle.std.specs.Prelude.{◌≡◌, [], ◌*◌, ◌≤◌, ◌&&◌, pos, length};
 ghost use Rattle.std.specs.Float.Ieee.{le};
 ghost use Rattle.std.specs.Int.Signed.{le_z};
 ghost use Rattle.base.specs.Places.{any};
-ghost use Rattle.base.specs.Refusals.{refusal, filling};
+ghost use Rattle.base.specs.Refusals.{refusal, answered};
 ghost use Rattle.rules.specs.Regions.{at};
 ghost use Rattle.rules.specs.Sheet.{needed};
 ghost use Rattle.rules.specs.Palette.{palette_of, out_of_range};
@@ -13,13 +13,14 @@ ghost use Rattle.rules.specs.Rows.{too_large, bad_palette, bad_darkening, sheet_
 ghost use Rattle.rules.specs.Masks.{grid_refusal};
 ghost use Rattle.refusals.specs.Near.{all_near};
 
-use base::Filling;
+use base::Refusal;
 use rules::Outline;
 
 // The most rows that a sheet has.
 const MOST_ROWS: usize = 512;
 
 // Row 1: a side is above 512.
+#[tactic(auto, unfolding(rules::specs::Rows::too_large))]
 pub fn too_large(h: usize, w: usize) -> bool
     ensures { result ≡ (too_large h w).applies }
 {
@@ -27,6 +28,7 @@ pub fn too_large(h: usize, w: usize) -> bool
 }
 
 // The needed cells: (h + 2) × (w + 2) if padding applies, else h × w.
+#[tactic(auto, unfolding(rules::specs::Sheet::needed))]
 fn needed(h: usize, w: usize, padding: bool) -> usize
     requires { (h ≤ 512) × (w ≤ 512) }
     ensures { result ≡ needed h w padding }
@@ -38,38 +40,38 @@ fn needed(h: usize, w: usize, padding: bool) -> usize
 }
 
 // Rows 1 to 3, by the lengths of the shortest lent list and of the work area.
-pub fn sheet_refusal(h: usize, w: usize, padding: bool, lent: usize, work: usize) -> Filling
-    ensures { result ≡ filling (refusal (sheet_rows h w (needed h w padding) lent work)) }
+#[tactic(auto, unfolding(rules::specs::Rows::too_large, rules::specs::Rows::too_short, rules::specs::Rows::cramped, rules::specs::Sheet::needed, base::specs::Refusals::refusal, base::specs::Refusals::answered, base::specs::Refusals::unless))]
+pub fn sheet_refusal(
+    h: usize,
+    w: usize,
+    padding: bool,
+    lent: usize,
+    work: usize,
+) -> Result<(), Refusal>
+    ensures { result ≡ answered (refusal (sheet_rows h w (needed h w padding) lent work)) tt }
 {
     if too_large(h, w) {
-        return Filling::Refused(1);
+        return Err(Refusal::SideTooLong);
     }
     let need = needed(h, w, padding);
     if lent < need {
-        return Filling::Refused(2);
+        return Err(Refusal::ListTooShort);
     }
     if work < 8 * need {
-        return Filling::Refused(3);
+        return Err(Refusal::WorkTooShort);
     }
-    Filling::Done
-}
-
-// The lesser of two numbers.
-pub fn lesser(a: usize, b: usize) -> usize
-    ensures { result ≡ min a b }
-{
-    if a < b { a } else { b }
+    Ok(())
 }
 
 // Rows 1 to 3 of an entry that reads a lent list and fills another, each of one number a cell.
-pub fn grid_refusal(h: usize, w: usize, lent: usize, out: usize, work: usize) -> Filling
-    ensures { result ≡ filling (grid_refusal h w lent out work []) }
+pub fn grid_refusal(h: usize, w: usize, lent: usize, out: usize, work: usize) -> Result<(), Refusal>
+    ensures { result ≡ answered (grid_refusal h w lent out work []) tt }
 {
-    let shorter = lesser(lent, out);
-    sheet_refusal(h, w, false, shorter, work)
+    sheet_refusal(h, w, false, lent.min(out), work)
 }
 
 // Row 4: there are more than 256 entries, or not 768 doubles.
+#[tactic(auto, unfolding(rules::specs::Rows::bad_palette))]
 pub fn bad_palette(palette: &[f64], k: usize) -> bool
     ensures { result ≡ (bad_palette (palette_of palette.now k)).applies }
 {
@@ -107,20 +109,21 @@ pub fn bad_colour(palette: &[f64], k: usize) -> bool
 }
 
 // Rows 4 to 6; `bad` tells that a setting is out of range.
-pub fn palette_refusal(palette: &[f64], k: usize, bad: bool) -> Filling
-    ensures { result ≡ filling (refusal (palette_rows (palette_of palette.now k) bad)) }
+#[tactic(auto, unfolding(rules::specs::Rows::bad_palette, rules::specs::Rows::bad_colour, rules::specs::Rows::bad_setting, base::specs::Refusals::refusal, base::specs::Refusals::answered, base::specs::Refusals::unless))]
+pub fn palette_refusal(palette: &[f64], k: usize, bad: bool) -> Result<(), Refusal>
+    ensures { result ≡ answered (refusal (palette_rows (palette_of palette.now k) bad)) tt }
 {
     if bad_palette(palette, k) {
-        return Filling::Refused(4);
+        return Err(Refusal::WrongLength);
     }
     if bad_colour(palette, k) {
-        return Filling::Refused(5);
+        return Err(Refusal::ColourOutOfRange);
     }
     let out_of_range = bad;
     if out_of_range {
-        return Filling::Refused(6);
+        return Err(Refusal::SettingOutOfRange);
     }
-    Filling::Done
+    Ok(())
 }
 
 // Row 6: whether a colour limit is from 0 to 1024, and no NaN.
@@ -131,6 +134,7 @@ pub fn limit_in_range(x: f64) -> bool
 }
 
 // Row 6: the darkening of an outline is NaN or not from 0 to 1.
+#[tactic(auto, unfolding(rules::specs::Rows::bad_darkening))]
 pub fn bad_darkening(outline: Outline) -> bool
     ensures { result ≡ bad_darkening outline }
 {
