@@ -1,9 +1,11 @@
 -- The entries over lists of colours, three numbers for each colour: the rows by which each refuses, and what it writes. Definitions only. Assumes nothing.
-use Rattle.std.specs.Prelude.{ℕ, zero, suc, ◌+◌, ◌*◌, ◌/◌, ◌%◌, Bool, false, not, ◌&&◌, ◌||◌, cond, List, [], ◌∷◌, ltb, eqb, ℤ, pos, length, get_or, Float}
+use Rattle.std.specs.Prelude.{ℕ, zero, suc, ◌+◌, ◌*◌, ◌/◌, ◌%◌, ◌<◌, ◌≡◌, Bool, false, not, ◌&&◌, ◌||◌, cond, List, [], ◌∷◌, ltb, eqb, ℤ, pos, length, get_or, Float}
+use Rattle.std.specs.Fn.{Shared}
 use Rattle.std.specs.Float.{nan, inf}
 use Rattle.std.specs.Float.Ieee.{lt}
 use Rattle.base.specs.Places.{any}
 use Rattle.base.specs.Outputs.{filled}
+use Rattle.base.specs.declared.Refusal.TheVariants.{ListTooShort, WrongLength, ColourOutOfRange, NoEntries}
 use Rattle.base.specs.Refusals.{Row, row, refusal, unless}
 use Rattle.color.specs.declared.Lab.{Lab}
 use Rattle.color.specs.declared.Rgb8.{Rgb8}
@@ -28,7 +30,11 @@ strays list = any (length list) (λ i. not (within (get_or list i nan)))
 
 -- what an output becomes: as it was if a row applies, else the new list
 unfoldable pub written : {A : Type 0} → List Row → List A → List A → List A
-written rows out new = unless (refusal rows) (λ n. out) new
+written rows out new = unless (refusal rows) (λ r. out) new
+
+-- each call of f at a place below n gives the value of v there
+abbrev pub Gives : {F T : Type 0} → Shared F (ℕ × Unit {0}) T → ℕ → (ℕ → T) → F → Type 0
+Gives {F} {T} g n v f = (i : ℕ) (r : T) → i < n → g.post f (i, tt) r → r ≡ v i
 
 -- ---- conversions
 
@@ -54,7 +60,7 @@ rgb8_at lab i = rgb8_part (lab_to_rgb8 (entry lab (i / 3))) (i % 3)
 
 -- when `rgb8_to_lab` refuses, `room` being the length of its output
 unfoldable pub rgb8_to_lab_rows : List ℕ → ℕ → List Row
-rgb8_to_lab_rows rgb8 room = row 2 (ltb room (3 * colours rgb8)) ∷ row 4 (ragged rgb8) ∷ []
+rgb8_to_lab_rows rgb8 room = row ListTooShort (ltb room (3 * colours rgb8)) ∷ row WrongLength (ragged rgb8) ∷ []
 
 -- its output afterwards
 unfoldable pub rgb8_to_lab_out : List ℕ → List Float → List Float
@@ -63,7 +69,7 @@ rgb8_to_lab_out rgb8 out =
 
 -- when `lab_to_rgb8` refuses
 unfoldable pub lab_to_rgb8_rows : List Float → ℕ → List Row
-lab_to_rgb8_rows lab room = row 2 (ltb room (3 * colours lab)) ∷ row 4 (ragged lab) ∷ row 5 (strays lab) ∷ []
+lab_to_rgb8_rows lab room = row ListTooShort (ltb room (3 * colours lab)) ∷ row WrongLength (ragged lab) ∷ row ColourOutOfRange (strays lab) ∷ []
 
 -- its output afterwards
 unfoldable pub lab_to_rgb8_out : List Float → List ℕ → List ℕ
@@ -79,9 +85,9 @@ delta_at a b i = distance (entry a i) (entry b i)
 -- when `delta_e` refuses
 unfoldable pub delta_e_rows : List Float → List Float → ℕ → List Row
 delta_e_rows a b room =
-    row 2 (ltb room (colours a))
-    ∷ row 4 (ragged a || ragged b || not (eqb (length a) (length b)))
-    ∷ row 5 (strays a || strays b)
+    row ListTooShort (ltb room (colours a))
+    ∷ row WrongLength (ragged a || ragged b || not (eqb (length a) (length b)))
+    ∷ row ColourOutOfRange (strays a || strays b)
     ∷ []
 
 -- its output afterwards
@@ -96,7 +102,7 @@ matrix_at palette i = distance (entry palette (i / colours palette)) (entry pale
 -- when `palette_distance_matrix` refuses
 unfoldable pub matrix_rows : List Float → ℕ → List Row
 matrix_rows palette room =
-    row 2 (ltb room (colours palette * colours palette)) ∷ row 4 (ragged palette || crowded palette) ∷ row 5 (strays palette) ∷ []
+    row ListTooShort (ltb room (colours palette * colours palette)) ∷ row WrongLength (ragged palette || crowded palette) ∷ row ColourOutOfRange (strays palette) ∷ []
 
 -- its output afterwards
 unfoldable pub matrix_out : List Float → List Float → List Float
@@ -121,10 +127,10 @@ nearest_at pixels palette i = pos (best_of palette (entry pixels i) (colours pal
 -- when `nearest_index` refuses
 unfoldable pub nearest_rows : List Float → List Float → ℕ → List Row
 nearest_rows pixels palette room =
-    row 2 (ltb room (colours pixels))
-    ∷ row 4 (ragged pixels || ragged palette || crowded palette)
-    ∷ row 5 (strays pixels || strays palette)
-    ∷ row 8 (ltb 0 (colours pixels) && eqb (length palette) 0)
+    row ListTooShort (ltb room (colours pixels))
+    ∷ row WrongLength (ragged pixels || ragged palette || crowded palette)
+    ∷ row ColourOutOfRange (strays pixels || strays palette)
+    ∷ row NoEntries (ltb 0 (colours pixels) && eqb (length palette) 0)
     ∷ []
 
 -- its output afterwards

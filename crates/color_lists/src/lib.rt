@@ -1,33 +1,26 @@
-// The entries over lists of colours, three numbers for each colour. Each first works out its answer, and writes only if nothing is refused.
+// The entries over lists of colours, three numbers for each colour. Each is judged first, and writes only if nothing is refused.
 #![tactic(auto)]
 
-ghost use Rattle.std.specs.Prelude.{◌≡◌, [], ◌∷◌, ◌+◌, ◌*◌, ◌<◌, ◌≤◌, ltb, pos, length, set};
+ghost use Rattle.std.specs.Prelude.{◌≡◌, ℕ, ◌+◌, ◌*◌, ◌/◌, ◌%◌, ◌<◌, ◌≤◌, ltb, pos, length};
 ghost use Rattle.base.specs.Outputs.{filled};
-ghost use Rattle.base.specs.Refusals.{row, refusal, filling};
-ghost use Rattle.color_lists.specs.Entries.{colours, strays, byte_entry, lab_at, rgb8_at, delta_at, matrix_at, nearest_at, closer, best_of};
+ghost use Rattle.base.specs.Refusals.{refusal, answered};
+ghost use Rattle.color.specs.Lab.{entry, rgb8_to_lab, lab_to_rgb8};
+ghost use Rattle.color_lists.specs.Entries.{Gives, colours, strays, byte_entry, closer, best_of};
 ghost use Rattle.color_lists.specs.Entries.{rgb8_to_lab_rows, rgb8_to_lab_out, lab_to_rgb8_rows, lab_to_rgb8_out, delta_e_rows, delta_e_out, matrix_rows, matrix_out, nearest_rows, nearest_out};
-ghost use Rattle.channel.specs.Channel.{DecodeTable, ThresholdTable};
 
-use base::Filling;
-use channel::{decode_table, threshold_table};
-use color::cielab::{dist2, distance, entry, lab_to_rgb8_by, rgb8_to_lab_by, within};
+use base::Refusal;
+use color::cielab::{dist2, distance, entry, lab_to_rgb8_one, rgb8_to_lab_one, within};
 use color::{Lab, Rgb8};
 
 // Whether a value is NaN or beyond 1024 either way.
 fn strays(list: &[f64]) -> bool
     ensures { result ≡ strays list.now }
 {
-    let mut i = 0;
-    while i < list.len() {
-        if !within(list[i]) {
-            return true;
-        }
-        i += 1;
-    }
-    false
+    !list.iter().all(|x| within(*x))
 }
 
 // The colour i of a list with three bytes for each colour.
+#[tactic(auto, unfolding(crate::specs::Entries::byte_entry))]
 fn byte_entry(list: &[u8], i: usize) -> Rgb8
     requires { 3 * i + 2 < length list.now }
     ensures { result ≡ byte_entry list.now i }
@@ -39,201 +32,184 @@ fn byte_entry(list: &[u8], i: usize) -> Rgb8
     }
 }
 
-// Writes a colour of CIELAB as the three numbers of the colour i.
-fn put_lab(out: &mut [f64], i: usize, c: Lab)
-    requires { 3 * i + 2 < length out.old }
-    ensures { out.new ≡ set (set (set out.old (3 * i) c.l) (3 * i + 1) c.a) (3 * i + 2) c.b }
+// The numbers of the colour i of a list in sRGB, in CIELAB.
+fn lab_numbers(rgb8: &[u8], i: usize) -> (f64, f64, f64)
+    requires { 3 * i + 2 < length rgb8.now }
+    ensures { let c = rgb8_to_lab (byte_entry rgb8.now i) in result ≡ (c.l, c.a, c.b) }
 {
-    out[3 * i] = c.l;
-    out[3 * i + 1] = c.a;
-    out[3 * i + 2] = c.b;
+    let c = rgb8_to_lab_one(byte_entry(rgb8, i));
+    (c.l, c.a, c.b)
 }
 
-// Writes a colour of sRGB as the three bytes of the colour i.
-fn put_rgb8(out: &mut [u8], i: usize, c: Rgb8)
-    requires { 3 * i + 2 < length out.old }
-    ensures { out.new ≡ set (set (set out.old (3 * i) c.r) (3 * i + 1) c.g) (3 * i + 2) c.b }
+// The bytes of the colour i of a list in CIELAB, in sRGB.
+fn rgb8_numbers(lab: &[f64], i: usize) -> (u8, u8, u8)
+    requires { 3 * i + 2 < length lab.now }
+    ensures { let c = lab_to_rgb8 (entry lab.now i) in result ≡ (c.r, c.g, c.b) }
 {
-    out[3 * i] = c.r;
-    out[3 * i + 1] = c.g;
-    out[3 * i + 2] = c.b;
+    let c = lab_to_rgb8_one(entry(lab, i));
+    (c.r, c.g, c.b)
 }
 
-// The first row that applies: too short an output, lists of the wrong lengths, a value out of range, no entry to choose from.
-fn told(short: bool, uneven: bool, stray: bool, empty: bool) -> Filling
-    ensures { result ≡ filling (refusal (row 2 short ∷ row 4 uneven ∷ row 5 stray ∷ row 8 empty ∷ [])) }
+// Writes f(0), f(1), .., f(n - 1) at the front.
+fn fill<T: Copy, F: Fn(usize) -> T>(out: &mut [T], n: usize, f: F)
+    requires callable { (i : ℕ) → i < n → F.pre f i }
+    requires room { n ≤ length out.old }
+    ensures { (v : ℕ → T) → Gives F.Fn n v f → out.new ≡ filled n v out.old }
 {
-    if short {
-        return Filling::Refused(2);
+    for i in 0..n {
+        out[i] = f(i);
     }
-    if uneven {
-        return Filling::Refused(4);
-    }
-    if stray {
-        return Filling::Refused(5);
-    }
-    if empty {
-        return Filling::Refused(8);
-    }
-    Filling::Done
 }
 
-// The answer of `rgb8_to_lab` for an output of the length room.
-fn rgb8_to_lab_answer(rgb8: &[u8], room: usize) -> Filling
-    ensures { result ≡ filling (refusal (rgb8_to_lab_rows rgb8.now room)) }
+// Writes the three numbers of each of f(0), f(1), .., f(n - 1) at the front.
+fn fill_threes<T: Copy, F: Fn(usize) -> (T, T, T)>(out: &mut [T], n: usize, f: F)
+    requires callable { (i : ℕ) → i < n → F.pre f i }
+    requires room { 3 * n ≤ length out.old }
+    ensures { (v : ℕ → ℕ → T) → Gives F.Fn n (λ i. (v i 0, v i 1, v i 2)) f → out.new ≡ filled (3 * n) (λ k. v (k / 3) (k % 3)) out.old }
+{
+    for i in 0..n {
+        let (x, y, z) = f(i);
+        out[3 * i] = x;
+        out[3 * i + 1] = y;
+        out[3 * i + 2] = z;
+    }
+}
+
+// Whether `rgb8_to_lab` refuses, room being the length of its output.
+#[tactic(auto, unfolding(base::specs::Refusals::refusal, base::specs::Refusals::answered, base::specs::Refusals::unless, crate::specs::Entries::rgb8_to_lab_rows, crate::specs::Entries::colours, crate::specs::Entries::ragged))]
+fn rgb8_to_lab_answer(rgb8: &[u8], room: usize) -> Result<(), Refusal>
+    ensures { result ≡ answered (refusal (rgb8_to_lab_rows rgb8.now room)) tt }
 {
     let short = room < 3 * (rgb8.len() / 3);
     let uneven = rgb8.len() % 3 != 0;
-    told(short, uneven, false, false)
-}
-
-fn fill_lab(table: &[u64], rgb8: &[u8], out: &mut [f64])
-    requires decode_table { DecodeTable table.now }
-    requires rgb8_in_bounds { 3 * colours rgb8.now ≤ length out.old }
-    ensures { out.new ≡ filled (3 * colours rgb8.now) (lab_at rgb8.now) out.old }
-{
-    let n = rgb8.len() / 3;
-    let mut i = 0;
-    while i < n {
-        put_lab(out, i, rgb8_to_lab_by(table, byte_entry(rgb8, i)));
-        i += 1;
+    if short {
+        return Err(Refusal::ListTooShort);
     }
+    if uneven {
+        return Err(Refusal::WrongLength);
+    }
+    Ok(())
 }
 
 // Colours of sRGB as colours of CIELAB.
-pub fn rgb8_to_lab(rgb8: &[u8], out: &mut [f64]) -> Filling
-    ensures value { result ≡ filling (refusal (rgb8_to_lab_rows rgb8.now (length out.old))) }
+pub fn rgb8_to_lab(rgb8: &[u8], out: &mut [f64]) -> Result<(), Refusal>
+    ensures value { result ≡ answered (refusal (rgb8_to_lab_rows rgb8.now (length out.old))) tt }
     ensures out_after { out.new ≡ rgb8_to_lab_out rgb8.now out.old }
 {
-    let answer = rgb8_to_lab_answer(rgb8, out.len());
-    if let Filling::Done = answer {
-        let table = decode_table();
-        fill_lab(&table, rgb8, out);
-    }
-    answer
+    rgb8_to_lab_answer(rgb8, out.len())?;
+    fill_threes(out, rgb8.len() / 3, |i| lab_numbers(rgb8, i));
+    Ok(())
 }
 
-// The answer of `lab_to_rgb8` for an output of the length room.
-fn lab_to_rgb8_answer(lab: &[f64], room: usize) -> Filling
-    ensures { result ≡ filling (refusal (lab_to_rgb8_rows lab.now room)) }
+// Whether `lab_to_rgb8` refuses.
+#[tactic(auto, unfolding(base::specs::Refusals::refusal, base::specs::Refusals::answered, base::specs::Refusals::unless, crate::specs::Entries::lab_to_rgb8_rows, crate::specs::Entries::colours, crate::specs::Entries::ragged))]
+fn lab_to_rgb8_answer(lab: &[f64], room: usize) -> Result<(), Refusal>
+    ensures { result ≡ answered (refusal (lab_to_rgb8_rows lab.now room)) tt }
 {
     let short = room < 3 * (lab.len() / 3);
     let uneven = lab.len() % 3 != 0;
-    told(short, uneven, strays(lab), false)
-}
-
-fn fill_rgb8(table: &[u64], lab: &[f64], out: &mut [u8])
-    requires threshold_table { ThresholdTable table.now }
-    requires lab_in_bounds { 3 * colours lab.now ≤ length out.old }
-    ensures { out.new ≡ filled (3 * colours lab.now) (rgb8_at lab.now) out.old }
-{
-    let n = lab.len() / 3;
-    let mut i = 0;
-    while i < n {
-        put_rgb8(out, i, lab_to_rgb8_by(table, entry(lab, i)));
-        i += 1;
+    if short {
+        return Err(Refusal::ListTooShort);
     }
+    if uneven {
+        return Err(Refusal::WrongLength);
+    }
+    if strays(lab) {
+        return Err(Refusal::ColourOutOfRange);
+    }
+    Ok(())
 }
 
 // Colours of CIELAB as colours of sRGB.
-pub fn lab_to_rgb8(lab: &[f64], out: &mut [u8]) -> Filling
-    ensures value { result ≡ filling (refusal (lab_to_rgb8_rows lab.now (length out.old))) }
+pub fn lab_to_rgb8(lab: &[f64], out: &mut [u8]) -> Result<(), Refusal>
+    ensures value { result ≡ answered (refusal (lab_to_rgb8_rows lab.now (length out.old))) tt }
     ensures out_after { out.new ≡ lab_to_rgb8_out lab.now out.old }
 {
-    let answer = lab_to_rgb8_answer(lab, out.len());
-    if let Filling::Done = answer {
-        let table = threshold_table();
-        fill_rgb8(&table, lab, out);
-    }
-    answer
+    lab_to_rgb8_answer(lab, out.len())?;
+    fill_threes(out, lab.len() / 3, |i| rgb8_numbers(lab, i));
+    Ok(())
 }
 
-// The answer of `delta_e` for an output of the length room.
-fn delta_e_answer(a: &[f64], b: &[f64], room: usize) -> Filling
-    ensures { result ≡ filling (refusal (delta_e_rows a.now b.now room)) }
+// Whether `delta_e` refuses.
+#[tactic(auto, unfolding(base::specs::Refusals::refusal, base::specs::Refusals::answered, base::specs::Refusals::unless, crate::specs::Entries::delta_e_rows, crate::specs::Entries::colours, crate::specs::Entries::ragged))]
+fn delta_e_answer(a: &[f64], b: &[f64], room: usize) -> Result<(), Refusal>
+    ensures { result ≡ answered (refusal (delta_e_rows a.now b.now room)) tt }
 {
     let short = room < a.len() / 3;
-    let uneven = (a.len() % 3 != 0) | (b.len() % 3 != 0) | (a.len() != b.len());
-    told(short, uneven, strays(a) | strays(b), false)
-}
-
-fn fill_delta_e(a: &[f64], b: &[f64], out: &mut [f64])
-    requires { (length a.now ≡ length b.now) × (colours a.now ≤ length out.old) }
-    ensures { out.new ≡ filled (colours a.now) (delta_at a.now b.now) out.old }
-{
-    let n = a.len() / 3;
-    let mut i = 0;
-    while i < n {
-        out[i] = distance(entry(a, i), entry(b, i));
-        i += 1;
+    let uneven = a.len() % 3 != 0 || b.len() % 3 != 0 || a.len() != b.len();
+    if short {
+        return Err(Refusal::ListTooShort);
     }
+    if uneven {
+        return Err(Refusal::WrongLength);
+    }
+    let stray = strays(a) || strays(b);
+    if stray {
+        return Err(Refusal::ColourOutOfRange);
+    }
+    Ok(())
 }
 
 // The distances of the colours of two lists, pair by pair.
-pub fn delta_e(a: &[f64], b: &[f64], out: &mut [f64]) -> Filling
-    ensures value { result ≡ filling (refusal (delta_e_rows a.now b.now (length out.old))) }
+pub fn delta_e(a: &[f64], b: &[f64], out: &mut [f64]) -> Result<(), Refusal>
+    ensures value { result ≡ answered (refusal (delta_e_rows a.now b.now (length out.old))) tt }
     ensures out_after { out.new ≡ delta_e_out a.now b.now out.old }
 {
-    let answer = delta_e_answer(a, b, out.len());
-    if let Filling::Done = answer {
-        fill_delta_e(a, b, out);
-    }
-    answer
+    delta_e_answer(a, b, out.len())?;
+    fill(out, a.len() / 3, |i| distance(entry(a, i), entry(b, i)));
+    Ok(())
 }
 
 // Whether the square of n is above room, told by a quotient, since the square may not fit.
 fn squared_above(n: usize, room: usize) -> bool
     ensures { result ≡ ltb room (n * n) }
 {
-    if n == 0 {
-        return false;
-    }
-    room / n < n
+    n != 0 && room / n < n
 }
 
-// The answer of `palette_distance_matrix` for an output of the length room.
-fn matrix_answer(palette: &[f64], room: usize) -> Filling
-    ensures { result ≡ filling (refusal (matrix_rows palette.now room)) }
+// Whether `palette_distance_matrix` refuses.
+#[tactic(auto, unfolding(base::specs::Refusals::refusal, base::specs::Refusals::answered, base::specs::Refusals::unless, crate::specs::Entries::matrix_rows, crate::specs::Entries::colours, crate::specs::Entries::ragged, crate::specs::Entries::crowded))]
+fn matrix_answer(palette: &[f64], room: usize) -> Result<(), Refusal>
+    ensures { result ≡ answered (refusal (matrix_rows palette.now room)) tt }
 {
     let n = palette.len() / 3;
-    let short = squared_above(n, room);
-    let uneven = (palette.len() % 3 != 0) | (n > 256);
-    told(short, uneven, strays(palette), false)
-}
-
-fn fill_matrix(palette: &[f64], out: &mut [f64])
-    requires { (colours palette.now ≤ 256) × (colours palette.now * colours palette.now ≤ length out.old) }
-    ensures { out.new ≡ filled (colours palette.now * colours palette.now) (matrix_at palette.now) out.old }
-{
-    let n = palette.len() / 3;
-    let cells = n * n;
-    let mut i = 0;
-    while i < cells {
-        out[i] = distance(entry(palette, i / n), entry(palette, i % n));
-        i += 1;
+    let uneven = palette.len() % 3 != 0 || n > 256;
+    if squared_above(n, room) {
+        return Err(Refusal::ListTooShort);
     }
+    if uneven {
+        return Err(Refusal::WrongLength);
+    }
+    if strays(palette) {
+        return Err(Refusal::ColourOutOfRange);
+    }
+    Ok(())
 }
 
 // The distances of all colours of a palette from each other, row after row.
-pub fn palette_distance_matrix(palette: &[f64], out: &mut [f64]) -> Filling
-    ensures value { result ≡ filling (refusal (matrix_rows palette.now (length out.old))) }
+pub fn palette_distance_matrix(palette: &[f64], out: &mut [f64]) -> Result<(), Refusal>
+    ensures value { result ≡ answered (refusal (matrix_rows palette.now (length out.old))) tt }
     ensures out_after { out.new ≡ matrix_out palette.now out.old }
 {
-    let answer = matrix_answer(palette, out.len());
-    if let Filling::Done = answer {
-        fill_matrix(palette, out);
-    }
-    answer
+    matrix_answer(palette, out.len())?;
+    let n = palette.len() / 3;
+    fill(
+        out,
+        n * n,
+        |i| distance(entry(palette, i / n), entry(palette, i % n)),
+    );
+    Ok(())
 }
 
 // A palette's entry with the square of its distance.
-#[derive(Clone, Copy)]
+#[derive(Clone, Copy, Debug, PartialEq)]
 struct Best {
     index: usize,
     square: f64,
 }
 
 // The entry k takes the place of the best so far if its square is below that one's.
+#[tactic(auto, unfolding(crate::specs::Entries::closer))]
 fn closer(best: Best, k: usize, d: f64) -> Best
     ensures { result ≡ closer best k d }
 {
@@ -252,50 +228,49 @@ fn nearest(palette: &[f64], p: Lab) -> i32
     requires { colours palette.now ≤ 256 }
     ensures { result ≡ pos (best_of palette.now p (colours palette.now)).index }
 {
-    let n = palette.len() / 3;
     let mut best = Best {
         index: 0,
-        square: 1.0 / 0.0,
+        square: f64::INFINITY,
     };
-    let mut k = 0;
-    while k < n {
+    for k in 0..palette.len() / 3 {
         best = closer(best, k, dist2(p, entry(palette, k)));
-        k += 1;
     }
     best.index as i32
 }
 
-// The answer of `nearest_index` for an output of the length room.
-fn nearest_answer(pixels: &[f64], palette: &[f64], room: usize) -> Filling
-    ensures { result ≡ filling (refusal (nearest_rows pixels.now palette.now room)) }
+// Whether `nearest_index` refuses.
+#[tactic(auto, unfolding(base::specs::Refusals::refusal, base::specs::Refusals::answered, base::specs::Refusals::unless, crate::specs::Entries::nearest_rows, crate::specs::Entries::colours, crate::specs::Entries::ragged, crate::specs::Entries::crowded))]
+fn nearest_answer(pixels: &[f64], palette: &[f64], room: usize) -> Result<(), Refusal>
+    ensures { result ≡ answered (refusal (nearest_rows pixels.now palette.now room)) tt }
 {
     let n = pixels.len() / 3;
-    let short = room < n;
-    let uneven = (pixels.len() % 3 != 0) | (palette.len() % 3 != 0) | (palette.len() / 3 > 256);
-    let empty = (n > 0) & (palette.len() == 0);
-    told(short, uneven, strays(pixels) | strays(palette), empty)
-}
-
-fn fill_nearest(pixels: &[f64], palette: &[f64], out: &mut [i32])
-    requires { (colours palette.now ≤ 256) × (colours pixels.now ≤ length out.old) }
-    ensures { out.new ≡ filled (colours pixels.now) (nearest_at pixels.now palette.now) out.old }
-{
-    let n = pixels.len() / 3;
-    let mut i = 0;
-    while i < n {
-        out[i] = nearest(palette, entry(pixels, i));
-        i += 1;
+    let uneven = pixels.len() % 3 != 0 || palette.len() % 3 != 0 || palette.len() / 3 > 256;
+    if room < n {
+        return Err(Refusal::ListTooShort);
     }
+    if uneven {
+        return Err(Refusal::WrongLength);
+    }
+    let stray = strays(pixels) || strays(palette);
+    if stray {
+        return Err(Refusal::ColourOutOfRange);
+    }
+    if n > 0 && palette.is_empty() {
+        return Err(Refusal::NoEntries);
+    }
+    Ok(())
 }
 
 // The index of the nearest palette entry for each pixel, by squares, the lowest on ties.
-pub fn nearest_index(pixels: &[f64], palette: &[f64], out: &mut [i32]) -> Filling
-    ensures value { result ≡ filling (refusal (nearest_rows pixels.now palette.now (length out.old))) }
+pub fn nearest_index(pixels: &[f64], palette: &[f64], out: &mut [i32]) -> Result<(), Refusal>
+    ensures value { result ≡ answered (refusal (nearest_rows pixels.now palette.now (length out.old))) tt }
     ensures out_after { out.new ≡ nearest_out pixels.now palette.now out.old }
 {
-    let answer = nearest_answer(pixels, palette, out.len());
-    if let Filling::Done = answer {
-        fill_nearest(pixels, palette, out);
-    }
-    answer
+    nearest_answer(pixels, palette, out.len())?;
+    fill(
+        out,
+        pixels.len() / 3,
+        |i| nearest(palette, entry(pixels, i)),
+    );
+    Ok(())
 }
