@@ -4,12 +4,12 @@ use mathlib.Core.Path.{◌≡◌, refl, sym, ap, ◌∙◌, subst}
 use mathlib.Core.Logic.{◌⊎◌, inl, inr, ⊎_elim}
 use mathlib.Core.Bool.{Bool, true, false, not, ◌&&◌, ◌||◌, cond}
 use mathlib.Core.List.{List, [], ◌∷◌}
-use mathlib.Core.Option.{Option, none, some}
+use Rattle.std.specs.Prelude.{Option, None, Some}
 use native.Mathlib.Nat.{mul-zero, mul-le-mul, not-suc-le-zero, add-mul, mod-lt, mod-eq_of_lt, div-eq_of_lt, mul-add-div_right, mul-add-mod_self_right, div-add-mod', div-lt_iff_lt-mul}
 use native.Mathlib.Decide.{ℕ_discrete, dec_lt}
 use native.Mathlib.Omega.{arith}
 use borrow.Author.Tests.{ltb-true, ltb-false, lt-ltb, le-ltb, eqb-false}
-use lib.Dec.{lit<, leb, ltb, eqb}
+use lib.Dec.{lit<, lit≤, leb, ltb, eqb}
 use lib.IntN.{ℤ, pos, negsuc, ◌+ℤ◌}
 use lib.ListN.{get_or}
 use lib.Signed.{le_z}
@@ -17,8 +17,9 @@ use Rattle.base.proofs.Counting.{case, clash, both, left, right, either, or_left
 use Rattle.rules.specs.Regions.{Symmetric}
 use Rattle.rules.specs.Grid.{close, eight, four, on_edge, on_side, place_of, step_to}
 use Rattle.rules.proofs.Grids.{eight_symmetric, four_symmetric}
-use Rattle.grid.specs.declared.Step.TheVariants.{Cell, Off}
-use Rattle.grid.specs.Steps.{Single, Inner, step_of, neighbours}
+use Rattle.grid.specs.declared.Neighbourhood.{Neighbourhood}
+use Rattle.grid.specs.declared.Neighbourhood.TheVariants.{Four, Eight}
+use Rattle.grid.specs.Steps.{steps_of, Single, Inner, neighbours}
 
 -- ---- rows, columns and places
 
@@ -48,10 +49,10 @@ area h w a b = mul-le-mul a b
 
 -- ---- where a step leads
 
-pub some_inj : {a b : ℕ} → some a ≡ some b → a ≡ b
+pub some_inj : {a b : ℕ} → Some a ≡ Some b → a ≡ b
 some_inj e = cc
 
-pub none_some : {a : ℕ} → none ≡ some a → ⊥
+pub none_some : {a : ℕ} → None ≡ Some a → ⊥
 none_some e = let z : ◌≡◌ {A = ℕ} 0 1 = cc in omega arith
 
 -- b is d further than a
@@ -60,7 +61,7 @@ Shifted (pos k) a b = b ≡ a + k
 Shifted (negsuc k) a b = a ≡ b + suc k
 
 -- a step along a side finds b exactly if b is on the side and d further
-pub side_sound : (len a b : ℕ) (d : ℤ) → on_side len (pos a +ℤ d) ≡ some b → (b < len) × Shifted d a b
+pub side_sound : (len a b : ℕ) (d : ℤ) → on_side len (pos a +ℤ d) ≡ Some b → (b < len) × Shifted d a b
 unfolding on_side
 side_sound len a b (pos k) e =
     case (ltb (a + k) len)
@@ -70,12 +71,12 @@ side_sound len a b (negsuc k) e =
     case (ltb a (suc k))
     (λ y. absurd (none_some (rw y at e)))
     (λ z. let s : suc k ≤ a = ltb-false a (suc k) z in
-    let e' : cond (ltb (a - suc k) len) (some (a - suc k)) none ≡ some b = rw z at e in
+    let e' : cond (ltb (a - suc k) len) (Some (a - suc k)) None ≡ Some b = rw z at e in
     case (ltb (a - suc k) len)
     (λ y. let q : a - suc k ≡ b = some_inj (rw y at e') in (omega (arith, ltb-true (a - suc k) len y), omega arith))
     (λ u. absurd (none_some (rw u at e'))))
 
-pub side_complete : (len a b : ℕ) (d : ℤ) → b < len → Shifted d a b → on_side len (pos a +ℤ d) ≡ some b
+pub side_complete : (len a b : ℕ) (d : ℤ) → b < len → Shifted d a b → on_side len (pos a +ℤ d) ≡ Some b
 unfolding on_side
 side_complete len a b (pos k) l e = rw (← e) (rw (lt-ltb b len l))
 side_complete len a b (negsuc k) l e =
@@ -83,8 +84,16 @@ side_complete len a b (negsuc k) l e =
     let q : a - suc k ≡ b = omega arith in
     rw (z, q, lt-ltb b len l)
 
+-- a row and a column that steps along the sides find make a place
+pub both_in : (h w y x : ℕ) (dy dx : ℤ) {row col : ℕ} → h ≤ 514 → w ≤ 514 → on_side h (pos y +ℤ dy) ≡ Some row → on_side w (pos x +ℤ dx) ≡ Some col →
+    row * w + col < 264196
+both_in h w y x dy dx {row} {col} lh lw r q =
+    let i = place_in_lem h w row col (side_sound h y row dy r).0 (side_sound w x col dx q).0 in
+    let m = area h w lh lw in
+    omega arith
+
 -- a step finds q exactly if q's row and column are on the grid and as much further
-pub step_complete : (h w y x b a : ℕ) (dy dx : ℤ) → b < h → a < w → Shifted dy y b → Shifted dx x a → step_to h w y x dy dx ≡ some (b * w + a)
+pub step_complete : (h w y x b a : ℕ) (dy dx : ℤ) → b < h → a < w → Shifted dy y b → Shifted dx x a → step_to h w y x dy dx ≡ Some (b * w + a)
 unfolding step_to place_of
 step_complete h w y x b a dy dx lb la sb sa = rw (side_complete h y b dy lb sb, side_complete w x a dx la sa)
 
@@ -93,12 +102,12 @@ pub record Found (h w y x : ℕ) (dy dx : ℤ) (q : ℕ) : Type 0 where
   pub row : Shifted dy y (q / w)
   pub col : Shifted dx x (q % w)
 
-pub step_sound : (h w y x q : ℕ) (dy dx : ℤ) → step_to h w y x dy dx ≡ some q → Found h w y x dy dx q
+pub step_sound : (h w y x q : ℕ) (dy dx : ℤ) → step_to h w y x dy dx ≡ Some q → Found h w y x dy dx q
 unfolding step_to place_of
 step_sound h w y x q dy dx e = go (on_side h (pos y +ℤ dy)) (on_side w (pos x +ℤ dx)) refl refl e
   where
-    go : (r c : Option ℕ) → on_side h (pos y +ℤ dy) ≡ r → on_side w (pos x +ℤ dx) ≡ c → place_of w r c ≡ some q → Found h w y x dy dx q
-    go (some b) (some a) er ec f =
+    go : (r c : Option ℕ) → on_side h (pos y +ℤ dy) ≡ r → on_side w (pos x +ℤ dx) ≡ c → place_of w r c ≡ Some q → Found h w y x dy dx q
+    go (Some b) (Some a) er ec f =
         let sb : (b < h) × Shifted dy y b = side_sound h y b dy er in
         let sa : (a < w) × Shifted dx x a = side_sound w x a dx ec in
         let i : b * w + a ≡ q = some_inj f in
@@ -107,8 +116,8 @@ step_sound h w y x q dy dx e = go (on_side h (pos y +ℤ dy)) (on_side w (pos x 
           row = subst (Shifted dy y) (sym (row_of w b a sa.0) ∙ ap (λ (n : ℕ). n / w) i) sb.1;
           col = subst (Shifted dx x) (sym (col_of w b a sa.0) ∙ ap (λ (n : ℕ). n % w) i) sa.1;
         }
-    go (some b) none er ec f = absurd (none_some f)
-    go none c er ec f = absurd (none_some f)
+    go (Some b) None er ec f = absurd (none_some f)
+    go None c er ec f = absurd (none_some f)
 
 -- ---- the eight steps
 
@@ -141,7 +150,7 @@ each_step P a b c d e f g h (suc (suc (suc (suc (suc (suc zero)))))) l = g
 each_step P a b c d e f g h (suc (suc (suc (suc (suc (suc (suc zero))))))) l = h
 each_step P a b c d e f g h (suc (suc (suc (suc (suc (suc (suc (suc k)))))))) l = absurd (omega arith)
 
--- one place back, none, or one on
+-- one place back, None, or one on
 data Way (a b : ℕ) : ℤ → Type 0 where
   back : a ≡ b + 1 → Way a b (negsuc 0)
   stay : a ≡ b → Way a b (pos 0)
@@ -232,17 +241,17 @@ single-near y x = record { up = low y; down = high y; left = low x; right = high
     high Single.on = refl
 
 module _ (h w p : ℕ) where
-  hop-found : (k q : ℕ) → hop h w p k ≡ some q → Found h w (p / w) (p % w) (rows_of k) (cols_of k) q
+  hop-found : (k q : ℕ) → hop h w p k ≡ Some q → Found h w (p / w) (p % w) (rows_of k) (cols_of k) q
   unfolding hop
   hop-found k q e = step_sound h w (p / w) (p % w) q (rows_of k) (cols_of k) e
 
-  hop_ways : (k q : ℕ) → k < 8 → hop h w p k ≡ some q → Ways (p / w) (q / w) (p % w) (q % w) k
+  hop_ways : (k q : ℕ) → k < 8 → hop h w p k ≡ Some q → Ways (p / w) (q / w) (p % w) (q % w) k
   hop_ways k q l e = let f = hop-found k q e in ways (p / w) (q / w) (p % w) (q % w) k l f.row f.col
 
-  pub hop_in : (k q : ℕ) → hop h w p k ≡ some q → q < h * w
+  pub hop_in : (k q : ℕ) → hop h w p k ≡ Some q → q < h * w
   hop_in k q e = (hop-found k q e).inside
 
-  pub hop-eight : (k q : ℕ) → k < 8 → hop h w p k ≡ some q → eight w p q ≡ true
+  pub hop-eight : (k q : ℕ) → k < 8 → hop h w p k ≡ Some q → eight w p q ≡ true
   unfolding eight
   hop-eight k q l e =
       let v = hop_ways k q l e in
@@ -251,7 +260,7 @@ module _ (h w p : ℕ) where
       (λ y. let z : p ≡ q = eqb_yes y in
       absurd (moves k l (zero_way v.0 (ap (λ (n : ℕ). n / w) z)) (zero_way v.1 (ap (λ (n : ℕ). n % w) z)))) (λ u. u)))
 
-  pub hop-four : (k q : ℕ) → k < 4 → hop h w p k ≡ some q → four w p q ≡ true
+  pub hop-four : (k q : ℕ) → k < 4 → hop h w p k ≡ Some q → four w p q ≡ true
   unfolding four
   hop-four k q l e =
       let l' : k < 8 = omega arith in
@@ -261,11 +270,11 @@ module _ (h w p : ℕ) where
 
   -- ---- and each neighbour is found by a step
 
-  hop-is : (k q : ℕ) → q < h * w → Ways (p / w) (q / w) (p % w) (q % w) k → hop h w p k ≡ some q
+  hop-is : (k q : ℕ) → q < h * w → Ways (p / w) (q / w) (p % w) (q % w) k → hop h w p k ≡ Some q
   unfolding hop
   hop-is k q l v =
       step_complete h w (p / w) (p % w) (q / w) (q % w) (rows_of k) (cols_of k) (row_in h w q l) (col_in h w q l) (way_shifted v.0) (way_shifted v.1)
-      ∙ ap some (div-add-mod' q w)
+      ∙ ap Some (div-add-mod' q w)
 
 -- a way for numbers that are at most one apart
 some_way : (a b : ℕ) → close 1 a b ≡ true → (d : ℤ) × Way a b d
@@ -345,10 +354,10 @@ four-after w p q pw l e =
     go (below f) s = inr f
     go (aside a) s = absurd (⊎_elim (λ y. a.row (eqb_yes y)) (λ y. a.col (eqb_yes y)) s)
 
-pub eight-hop : (h w p q : ℕ) → q < h * w → eight w p q ≡ true → (k : ℕ) × (k < 8) × (hop h w p k ≡ some q)
+pub eight-hop : (h w p q : ℕ) → q < h * w → eight w p q ≡ true → (k : ℕ) × (k < 8) × (hop h w p k ≡ Some q)
 eight-hop h w p q l e = let c = eight_chosen w p q e in (c.k, c.below, hop-is h w p c.k q l c.go)
 
-pub four-hop : (h w p q : ℕ) → q < h * w → four w p q ≡ true → (k : ℕ) × (k < 4) × (hop h w p k ≡ some q)
+pub four-hop : (h w p q : ℕ) → q < h * w → four w p q ≡ true → (k : ℕ) × (k < 4) × (hop h w p k ≡ Some q)
 unfolding four
 four-hop h w p q l e =
     let r = eqb (p / w) (q / w) in
@@ -356,33 +365,38 @@ four-hop h w p q l e =
     let f = eight_chosen w p q (left (eight w p q) (r || c) e) in
     (f.k, f.keeps (⊎_elim (λ y. inl (eqb_yes y)) (λ y. inr (eqb_yes y)) (either r c (right (eight w p q) (r || c) e))), hop-is h w p f.k q l f.go)
 
--- ---- the same for 4 or 8 steps
+-- ---- the same for both neighbourhoods
 
-pub neighbours-four : (w : ℕ) {steps : ℕ} → steps ≡ 4 → neighbours steps w ≡ four w
+pub steps_most : (near : Neighbourhood) → steps_of near ≤ 8
+unfolding steps_of
+steps_most Four = lit≤ tt
+steps_most Eight = lit≤ tt
+
+pub step_few : (near : Neighbourhood) (k : ℕ) → k < steps_of near → k < 8
+step_few near k l = omega (arith, steps_most near)
+
+pub neighbours-four : (w : ℕ) → neighbours Four w ≡ four w
 unfolding neighbours
-neighbours-four w e = ap (λ (s : ℕ). neighbours s w) e
+neighbours-four w = refl
 
-pub neighbours-eight : (w : ℕ) {steps : ℕ} → steps ≡ 8 → neighbours steps w ≡ eight w
+pub neighbours-eight : (w : ℕ) → neighbours Eight w ≡ eight w
 unfolding neighbours
-neighbours-eight w e = ap (λ (s : ℕ). neighbours s w) e
+neighbours-eight w = refl
 
-module _ (steps : ℕ) (ok : (steps ≡ 4) ⊎ (steps ≡ 8)) where
-  pub step_few : (k : ℕ) → k < steps → k < 8
-  step_few k l = ⊎_elim (λ e. omega arith) (λ e. omega arith) ok
+pub neighbours_symmetric : (near : Neighbourhood) (w : ℕ) → Symmetric (neighbours near w)
+unfolding neighbours
+neighbours_symmetric Four w = four_symmetric w
+neighbours_symmetric Eight w = eight_symmetric w
 
-  pub neighbours_symmetric : (w : ℕ) → Symmetric (neighbours steps w)
-  neighbours_symmetric w = ⊎_elim (λ e. subst Symmetric (sym (neighbours-four w e)) (four_symmetric w)) (λ e. subst Symmetric (sym (neighbours-eight w e)) (eight_symmetric w)) ok
+pub neighbours-sound : (near : Neighbourhood) (h w p k q : ℕ) → k < steps_of near → hop h w p k ≡ Some q → neighbours near w p q ≡ true
+unfolding neighbours steps_of
+neighbours-sound Four h w p k q l e = hop-four h w p k q l e
+neighbours-sound Eight h w p k q l e = hop-eight h w p k q l e
 
-  pub neighbours-sound : (h w p k q : ℕ) → k < steps → hop h w p k ≡ some q → neighbours steps w p q ≡ true
-  neighbours-sound h w p k q l e =
-      ⊎_elim (λ s. ap (λ (a : ℕ → ℕ → Bool). a p q) (neighbours-four w s) ∙ hop-four h w p k q (omega arith) e)
-      (λ s. ap (λ (a : ℕ → ℕ → Bool). a p q) (neighbours-eight w s) ∙ hop-eight h w p k q (omega arith) e) ok
-
-  pub neighbours_complete : (h w p q : ℕ) → q < h * w → neighbours steps w p q ≡ true → (k : ℕ) × (k < steps) × (hop h w p k ≡ some q)
-  neighbours_complete h w p q l e =
-      ⊎_elim
-      (λ s. let f = four-hop h w p q l (sym (ap (λ (a : ℕ → ℕ → Bool). a p q) (neighbours-four w s)) ∙ e) in (f.0, omega (arith, f.1), f.2))
-      (λ s. let f = eight-hop h w p q l (sym (ap (λ (a : ℕ → ℕ → Bool). a p q) (neighbours-eight w s)) ∙ e) in (f.0, omega (arith, f.1), f.2)) ok
+pub neighbours_complete : (near : Neighbourhood) (h w p q : ℕ) → q < h * w → neighbours near w p q ≡ true → (k : ℕ) × (k < steps_of near) × (hop h w p k ≡ Some q)
+unfolding neighbours steps_of
+neighbours_complete Four h w p q l e = four-hop h w p q l e
+neighbours_complete Eight h w p q l e = eight-hop h w p q l e
 
 -- ---- a step from within the border
 
@@ -423,36 +437,8 @@ module _ {h w p rows cols : ℕ} {dy dx : ℤ} (i : Inner h w p) (u : Past dy ro
       let e : row + 1 ≡ p / w + rows = omega (arith, i.above) in
       omega (arith, i.before, div-add-mod' p w, add-mul (p / w) rows w, add-mul row 1 w, ap (λ (b : ℕ). b * w) e)
 
-  pub inner_room : w + 1 ≤ p + rows * w + cols
-  inner_room = omega (arith, inner_place)
-
-  pub inner_step : step_to h w (p / w) (p % w) dy dx ≡ some (p + rows * w + cols - (w + 1))
+  pub inner_step : step_to h w (p / w) (p % w) dy dx ≡ Some (p + rows * w + cols - (w + 1))
   inner_step =
       step_complete h w (p / w) (p % w) row col dy dx (omega (arith, i.below, u.few)) (omega (arith, i.after, v.few))
       (u.shifted (p / w) row (omega (arith, i.above))) (v.shifted (p % w) col (omega (arith, i.before)))
-      ∙ ap some (omega (arith, inner_place))
-
--- ---- what `neighbour` does
-
-pub step_cell : {o : Option ℕ} {q : ℕ} → step_of o ≡ Cell q → o ≡ some q
-unfolding step_of
-step_cell {o = none} e = let z : ◌≡◌ {A = ℕ} 0 1 = cc in absurd (omega arith)
-step_cell {o = some p} e = cc
-
-pub step_off : {o : Option ℕ} → step_of o ≡ Off → o ≡ none
-unfolding step_of
-step_off {o = none} e = refl
-step_off {o = some p} e = let z : ◌≡◌ {A = ℕ} 0 1 = cc in absurd (omega arith)
-
-module _ (h w y x : ℕ) (dy dx : ℤ) where
-  pub off-row : on_side h (pos y +ℤ dy) ≡ none → Off ≡ step_of (step_to h w y x dy dx)
-  unfolding step_to place_of step_of
-  off-row e = rw e
-
-  pub off-col : (r : ℕ) → on_side h (pos y +ℤ dy) ≡ some r → on_side w (pos x +ℤ dx) ≡ none → Off ≡ step_of (step_to h w y x dy dx)
-  unfolding step_to place_of step_of
-  off-col r e f = rw (e, f)
-
-  pub on_both : (r c : ℕ) → on_side h (pos y +ℤ dy) ≡ some r → on_side w (pos x +ℤ dx) ≡ some c → Cell (r * w + c) ≡ step_of (step_to h w y x dy dx)
-  unfolding step_to place_of step_of
-  on_both r c e f = rw (e, f)
+      ∙ ap Some (omega (arith, inner_place))

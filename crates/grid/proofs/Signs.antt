@@ -1,5 +1,5 @@
 -- What signed numbers of the machine tell: it compares what it reads back from bits. Assumes nothing.
-use Prim.Native.Nat.{ℕ, zero, suc, ◌+◌, ◌-◌, ◌≤◌, ◌<◌}
+use Prim.Native.Nat.{ℕ, suc, ◌≤◌, ◌<◌}
 use mathlib.Core.Path.{◌≡◌, refl, ap, ◌∙◌}
 use mathlib.Core.Bool.{true, false, true≢false}
 use native.Mathlib.Omega.{arith}
@@ -12,10 +12,9 @@ use mir.Val.{SFits, of_z, to_z}
 use mir.Facts.{to_z-of_z, to_z_pos, sfits_lit}
 use Rattle.base.proofs.Counting.{case, clash, leb_yes, to_T}
 use Rattle.rules.specs.Grid.{on_side}
-use Rattle.grid.specs.declared.Step.TheVariants.{Cell, Off}
-use Rattle.grid.specs.Steps.{Single, step_of}
+use Rattle.std.specs.Prelude.{None, Some}
+use Rattle.grid.specs.Steps.{Single}
 use Rattle.grid.specs.Planes.{paint_of}
-use Rattle.grid.specs.Tiles.{repaint}
 
 -- a step of at most two places from a place of a side of at most 514
 pub record Short (a : ℕ) (d : ℤ) : Type 0 where
@@ -61,8 +60,8 @@ single_past Single.on = refl
 
 -- ---- the three ways through `along`, z being where the step leads
 
-pub before_all : (len : ℕ) (z : ℤ) → lt_z z (pos 0) ≡ true → Off ≡ step_of (on_side len z)
-unfolding step_of on_side
+pub before_all : (len : ℕ) (z : ℤ) → lt_z z (pos 0) ≡ true → None ≡ on_side len z
+unfolding on_side
 before_all len (pos i) t = clash t (le-ltb i 0 (omega arith))
 before_all len (negsuc i) t = refl
 
@@ -70,42 +69,19 @@ pub not_before : (z : ℤ) → lt_z z (pos 0) ≡ false → non_neg z ≡ true
 not_before (pos i) t = refl
 not_before (negsuc i) t = absurd (true≢false t)
 
-pub within : (len : ℕ) (z : ℤ) → lt_z z (pos 0) ≡ false → nat_abs z < len → Cell (nat_abs z) ≡ step_of (on_side len z)
-unfolding step_of on_side
+pub within : (len : ℕ) (z : ℤ) → lt_z z (pos 0) ≡ false → nat_abs z < len → Some (nat_abs z) ≡ on_side len z
+unfolding on_side
 within len (pos i) t l = rw (lt-ltb i len l)
 within len (negsuc i) t l = absurd (true≢false t)
 
-pub after_all : (len : ℕ) (z : ℤ) → lt_z z (pos 0) ≡ false → len ≤ nat_abs z → Off ≡ step_of (on_side len z)
-unfolding step_of on_side
+pub after_all : (len : ℕ) (z : ℤ) → lt_z z (pos 0) ≡ false → len ≤ nat_abs z → None ≡ on_side len z
+unfolding on_side
 after_all len (pos i) t l = rw (le-ltb i len l)
 after_all len (negsuc i) t l = absurd (true≢false t)
 
 -- ---- paint
 
-pub clear_paint : (z : ℤ) → lt_z z (pos 0) ≡ true → 0 ≡ paint_of z
-unfolding paint_of
-clear_paint (pos i) t = clash t (le-ltb i 0 (omega arith))
-clear_paint (negsuc i) t = refl
-
-pub opaque_paint : (z : ℤ) → lt_z z (pos 0) ≡ false → nat_abs z + 1 ≡ paint_of z
-unfolding paint_of
-opaque_paint (pos i) t = refl
-opaque_paint (negsuc i) t = absurd (true≢false t)
-
-pub paint_fits : (z : ℤ) → SFits w32 z → lt_z z (pos 0) ≡ false → nat_abs z < 2147483648
-paint_fits (pos i) f t = f.sfits
-paint_fits (negsuc i) f t = absurd (true≢false t)
-
 pub paint_most : (z : ℤ) → SFits w32 z → paint_of z ≤ 2147483648
 unfolding paint_of
 paint_most (pos i) f = let l : i < 2147483648 = f.sfits in omega arith
 paint_most (negsuc i) f = omega arith
-
-pub repaint_none : (x : ℕ) (z : ℤ) → x ≡ 0 → z ≡ repaint x z
-unfolding repaint
-repaint_none x z e = rw e
-
-pub repaint_some : (x : ℕ) (z : ℤ) → (x ≡ 0 → ⊥) → pos (x - 1) ≡ repaint x z
-unfolding repaint
-repaint_some zero z n = absurd (n refl)
-repaint_some (suc i) z n = ap pos (omega arith)

@@ -1,14 +1,8 @@
 -- Steps from a cell of a grid to its neighbours. Definitions only. Assumes nothing.
-use Rattle.std.specs.Prelude.{ℕ, ◌+◌, ◌/◌, ◌%◌, ◌<◌, Bool, cond, eqb, ℤ, pos, negsuc}
-use Rattle.std.proofs.Math.Option.{Option, none, some}
-use Rattle.grid.specs.declared.Step.{Step}
-use Rattle.grid.specs.declared.Step.TheVariants.{Cell, Off}
+use Rattle.std.specs.Prelude.{ℕ, ◌+◌, ◌/◌, ◌%◌, ◌<◌, Bool, ℤ, pos, negsuc}
+use Rattle.grid.specs.declared.Neighbourhood.{Neighbourhood}
+use Rattle.grid.specs.declared.Neighbourhood.TheVariants.{Four, Eight}
 use Rattle.rules.specs.Grid.{four, eight}
-
--- what a step finds, as the answer of `neighbour`
-unfoldable pub step_of : Option ℕ → Step
-step_of none = Off
-step_of (some p) = Cell p
 
 -- one place back, none, or one on
 pub data Single : ℤ → Type 0 where
@@ -23,6 +17,12 @@ pub record Inner (h w p : ℕ) : Type 0 where
   pub before : 0 < p % w
   pub after : p % w + 1 < w
 
--- the neighbourhood that the first 4 or all 8 steps reach
-unfoldable pub neighbours : ℕ → ℕ → ℕ → ℕ → Bool
-neighbours steps w = cond (eqb steps 4) (four w) (eight w)
+-- how many of the eight steps lead to a neighbour
+unfoldable pub steps_of : Neighbourhood → ℕ
+steps_of Four = 4
+steps_of Eight = 8
+
+-- which places are neighbours in rows of w
+unfoldable pub neighbours : Neighbourhood → ℕ → ℕ → ℕ → Bool
+neighbours Four = four
+neighbours Eight = eight

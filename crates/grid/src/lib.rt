@@ -6,21 +6,34 @@ pub mod tile;
 ghost use Rattle.std.specs.Prelude.{◌≡◌, ◌*◌, ◌/◌, ◌%◌, ◌≤◌, ◌<◌, pos, negsuc, ◌+ℤ◌, true, false};
 ghost use Rattle.std.specs.Int.Signed.{le_z};
 ghost use Rattle.rules.specs.Grid.{on_edge, on_side, step_to};
-ghost use Rattle.grid.specs.Steps.{step_of, Single, Inner};
+ghost use Rattle.grid.specs.Steps.{steps_of, Single, Inner};
 
-// What a step from a cell finds.
-#[derive(Clone, Copy)]
-pub enum Step {
-    Cell(usize),
-    Off,
+// Which of the eight steps lead from a cell to its neighbours: the first four, or all.
+#[derive(Clone, Copy, Debug, PartialEq, Eq)]
+pub enum Neighbourhood {
+    Four,
+    Eight,
 }
 
-// A grid of h rows of w cells, and how many of the eight steps lead from a cell to its neighbours: the first four, or all.
+impl Neighbourhood {
+    // How many these are. By it the compiler sees that there are 4 or 8.
+    #[tactic(auto, unfolding(crate::specs::Steps::steps_of))]
+    pub fn steps(self) -> usize
+        ensures { result ≡ steps_of self }
+    {
+        match self {
+            Neighbourhood::Four => 4,
+            Neighbourhood::Eight => 8,
+        }
+    }
+}
+
+// A grid of h rows of w cells, and which cells are neighbours on it.
 #[derive(Clone, Copy)]
 pub struct Grid {
     pub h: usize,
     pub w: usize,
-    pub steps: usize,
+    pub near: Neighbourhood,
 }
 
 // A step from the place p, by dy rows and dx columns; unless `border`, p lies on no edge.
@@ -45,55 +58,38 @@ pub const OFFSETS8: [[i32; 2]; 8] = [
 ];
 
 // A step of d along a side of `len` places.
-fn along(at: usize, d: i32, len: usize) -> Step
+fn along(at: usize, d: i32, len: usize) -> Option<usize>
     requires { (at < len) × (len ≤ 514) × (le_z (negsuc 1) d ≡ true) × (le_z d (pos 2) ≡ true) }
-    ensures { result ≡ step_of (on_side len (pos at +ℤ d)) }
+    ensures { result ≡ on_side len (pos at +ℤ d) }
 {
     let to = at as i32 + d;
     if to < 0 {
-        return Step::Off;
+        return None;
     }
     let next = to as usize;
-    if next < len {
-        Step::Cell(next)
-    } else {
-        Step::Off
-    }
+    if next < len { Some(next) } else { None }
 }
 
 // The step of dy rows and dx columns from row y and column x.
-pub fn neighbour(y: usize, x: usize, dy: i32, dx: i32, h: usize, w: usize) -> Step
+pub fn neighbour(y: usize, x: usize, dy: i32, dx: i32, h: usize, w: usize) -> Option<usize>
     requires y_lt_h { (y < h) × (x < w) × (h ≤ 514) × (w ≤ 514) }
     requires dy_value { (le_z (negsuc 1) dy ≡ true) × (le_z dy (pos 2) ≡ true) × (le_z (negsuc 1) dx ≡ true) × (le_z dx (pos 2) ≡ true) }
-    ensures { result ≡ step_of (step_to h w y x dy dx) }
+    ensures { result ≡ step_to h w y x dy dx }
 {
-    let Step::Cell(row) = along(y, dy, h) else {
-        return Step::Off;
-    };
-    let Step::Cell(col) = along(x, dx, w) else {
-        return Step::Off;
-    };
-    let first = row * w;
-    Step::Cell(first + col)
+    let row = along(y, dy, h)?;
+    let col = along(x, dx, w)?;
+    Some(row * w + col)
 }
 
 // Whether the place p lies on the border of the grid.
+#[tactic(auto, unfolding(rules::specs::Grid::on_edge))]
 pub fn on_edge(p: usize, h: usize, w: usize) -> bool
     requires { (p < h * w) × (h ≤ 514) × (w ≤ 514) }
     ensures { result ≡ on_edge h w p }
 {
     let y = p / w;
     let x = p % w;
-    if y == 0 {
-        return true;
-    }
-    if x == 0 {
-        return true;
-    }
-    if y + 1 == h {
-        return true;
-    }
-    x + 1 == w
+    y == 0 || x == 0 || y + 1 == h || x + 1 == w
 }
 
 // One more than a step of -1, 0 or 1.
@@ -105,10 +101,10 @@ fn past(d: i32) -> usize
 }
 
 // The step of dy rows and dx columns from the place p: from within the border every step leads to a cell.
-pub fn reached(p: usize, dy: i32, dx: i32, border: bool, h: usize, w: usize) -> Step
+pub fn reached(p: usize, dy: i32, dx: i32, border: bool, h: usize, w: usize) -> Option<usize>
     requires p_bound { (p < h * w) × (h ≤ 514) × (w ≤ 514) }
     requires single { Single dy × Single dx × (border ≡ false → Inner h w p) }
-    ensures { result ≡ step_of (step_to h w (p / w) (p % w) dy dx) }
+    ensures { result ≡ step_to h w (p / w) (p % w) dy dx }
 {
     if border {
         return neighbour(p / w, p % w, dy, dx, h, w);
@@ -117,5 +113,5 @@ pub fn reached(p: usize, dy: i32, dx: i32, border: bool, h: usize, w: usize) -> 
     let cols = past(dx);
     let to = p + rows * w + cols;
     let over = w + 1;
-    Step::Cell(to - over)
+    Some(to - over)
 }

@@ -8,6 +8,7 @@ ghost use Rattle.grid.specs.Tiles.{Tile, paint_at, Paints, repaint, stored_to, s
 const FIRST_ENTRY: i32 = 0;
 
 // 0 for a transparent cell, index + 1 otherwise.
+#[tactic(auto, unfolding(crate::specs::Planes::paint_of))]
 fn paint(cell: i32) -> u32
     ensures { result ≡ paint_of cell }
 {
@@ -54,6 +55,7 @@ pub fn load(cells: &[i32], work: &mut [u32], start: usize, stride: usize, h: usi
 }
 
 // The cell of a paint; 0 leaves the old one.
+#[tactic(auto, unfolding(crate::specs::Tiles::repaint))]
 fn repainted(paint: u32, old: i32) -> i32
     requires { paint ≤ 2147483648 }
     ensures { result ≡ repaint paint old }

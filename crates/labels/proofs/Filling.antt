@@ -17,6 +17,7 @@ use Rattle.rules.specs.Regions.{opaque, link, Joined, here, step, held, roots, r
 use Rattle.rules.specs.Masks.{label_at}
 use Rattle.rules.proofs.Roots.{link_left, link-right, join_right, join_sym, opaque-below, joined-root, root_le}
 use Rattle.rules.proofs.Labels.{label_clear, label-joined}
+use Rattle.grid.specs.declared.Neighbourhood.{Neighbourhood}
 use Rattle.grid.specs.Steps.{neighbours}
 use Rattle.grid.specs.Planes.{plane, cells_of, group_at, end_of}
 use Rattle.grid.proofs.Places.{neighbours_symmetric}
@@ -274,15 +275,15 @@ module _ (n : ℕ) (adj : ℕ → ℕ → Bool) (cells : List ℤ) (len : length
 
 -- ---- one more label, all told
 
-module _ {h w steps : ℕ} {work : List ℕ} {done : ℕ} {t : Tally} {Open : ℕ → Type 0} (f : Filled h w steps work done t Open) where
+module _ {h w : ℕ} {near : Neighbourhood} {work : List ℕ} {done : ℕ} {t : Tally} {Open : ℕ → Type 0} (f : Filled h w near work done t Open) where
   abbrev adj : ℕ → ℕ → Bool
-  adj = neighbours steps w
+  adj = neighbours near w
 
   abbrev cells : List ℤ
   cells = cells_of (h * w) work
 
-  pub symm : Symmetric (neighbours steps w)
-  symm = neighbours_symmetric steps f.sized.count w
+  pub symm : Symmetric (neighbours near w)
+  symm = neighbours_symmetric near w
 
   pub len : length (cells_of (h * w) work) ≡ h * w
   len = cells-size (h * w) work
@@ -296,14 +297,14 @@ module _ {h w steps : ℕ} {work : List ℕ} {done : ℕ} {t : Tally} {Open : �
 
     pub filled_put : {New : ℕ → Type 0} → m ≡ done + 1 → done ≤ t.taken → t.regions ≤ m → label_at (h * w) adj cells q ≡ m →
         ((k : ℕ) → k < m → (k < t.regions) ⊎ ((end_of (h * w) work k ≡ t.taken) × (root (h * w) adj cells q ≡ q))) →
-        ((p : ℕ) → Open p → New p) → New q → Filled h w steps (joined (h * w) q m t.taken work) done (record { regions = m; taken = t.taken + 1 }) New
+        ((p : ℕ) → Open p → New p) → New q → Filled h w near (joined (h * w) q m t.taken work) done (record { regions = m; taken = t.taken + 1 }) New
     filled_put {New = New} next few up is fore mono mine =
         let one : 1 ≤ m = omega arith in
         let u = put_here in
         let same : cells ≡ cells_of (h * w) (joined (h * w) q m t.taken work) = sym (sheet_kept (put_since u lq free one).kept) in
         let most : (p : ℕ) → p < h * w → plane (h * w) 1 work p ≤ m = (λ p lp. let l = f.labels.most p lp in omega arith) in
         record {
-          sized = record { rows = f.sized.rows; cols = f.sized.cols; count = f.sized.count; planes = omega (arith, f.sized.planes, u.size) };
+          sized = record { rows = f.sized.rows; cols = f.sized.cols; planes = omega (arith, f.sized.planes, u.size) };
           labels = subst (λ (c : List ℤ). Right adj c (h * w) (joined (h * w) q m t.taken work) m New) same (put_right u lq free one f.labels up is mono mine);
           order = put_order u lq free one f.order most;
           ended = subst (λ (c : List ℤ). Ended adj c (h * w) (joined (h * w) q m t.taken work) done m (t.taken + 1)) same (put_ended u lq free one f.order most f.ended next few fore);

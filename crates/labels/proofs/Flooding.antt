@@ -4,7 +4,7 @@ use mathlib.Core.Path.{◌≡◌, refl, sym, ap, ◌∙◌, subst}
 use mathlib.Core.Logic.{◌⊎◌, inl, inr, ⊎_elim}
 use mathlib.Core.Bool.{Bool, true, false}
 use mathlib.Core.List.{List}
-use mathlib.Core.Option.{some}
+use Rattle.std.specs.Prelude.{Some}
 use native.Mathlib.Nat.{not-suc-le-zero, le_refl}
 use native.Mathlib.Decide.{ℕ_discrete, dec_lt}
 use native.Mathlib.Omega.{arith}
@@ -18,7 +18,9 @@ use Rattle.rules.specs.Regions.{opaque, link, roots, root, first}
 use Rattle.rules.specs.Grid.{step_to}
 use Rattle.rules.specs.Masks.{label_at, regions}
 use Rattle.rules.proofs.Roots.{link-same, link-adj, link-right, to-link}
-use Rattle.grid.specs.Steps.{neighbours}
+use Rattle.grid.specs.declared.Neighbourhood.{Neighbourhood}
+use Rattle.grid.specs.declared.Neighbourhood.TheVariants.{Four, Eight}
+use Rattle.grid.specs.Steps.{steps_of, neighbours}
 use Rattle.grid.specs.Planes.{plane, paint_of, cell_of, cells_of, group_at, end_of, Labelled}
 use Rattle.grid.proofs.Places.{rows_of, cols_of, hop, hop_in, neighbours-four, neighbours-eight, neighbours-sound, neighbours_complete, some_inj, After, eight-after, four-after}
 use Rattle.grid.proofs.Planes.{plane_read, plane-same, plane_else, plane_other, cells_at, cells_paint, opaque_paint}
@@ -29,16 +31,16 @@ use Rattle.labels.proofs.Filling.{Put, room_left, put_since, at_old, at_new, she
 -- ---- the turns of `visit_all`
 
 -- while the neighbours of p, which waits at head, are visited: k of them are done, since the work area and the tally were work₀ and t₀
-pub record Turn (h w steps : ℕ) (work₀ : List ℕ) (t₀ : Tally) (head p k : ℕ) (work : List ℕ) (t : Tally) : Type 0 where
-  pub flood : Flood h w steps work head t
+pub record Turn (h w : ℕ) (near : Neighbourhood) (work₀ : List ℕ) (t₀ : Tally) (head p k : ℕ) (work : List ℕ) (t : Tally) : Type 0 where
+  pub flood : Flood h w near work head t
   pub is : plane (h * w) 2 work head ≡ p
-  pub done : (j q : ℕ) → j < k → hop h w p j ≡ some q → plane (h * w) 0 work q ≡ plane (h * w) 0 work p → plane (h * w) 1 work q ≡ 0 → ⊥
+  pub done : (j q : ℕ) → j < k → hop h w p j ≡ Some q → plane (h * w) 0 work q ≡ plane (h * w) 0 work p → plane (h * w) 1 work q ≡ 0 → ⊥
   pub alike : (i : ℕ) → head ≤ i → i < t.taken → plane (h * w) 0 work (plane (h * w) 2 work i) ≡ plane (h * w) 0 work p
   pub since : Since (h * w) work₀ work
   pub regions : t.regions ≡ t₀.regions
   pub taken : t₀.taken ≤ t.taken
 
-pub turn_start : {h w steps : ℕ} {work : List ℕ} {head paint : ℕ} {t : Tally} → Flood h w steps work head t → Tinted (h * w) work head t.taken paint → head < t.taken → Turn h w steps work t head (plane (h * w) 2 work head) 0 work t
+pub turn_start : {h w : ℕ} {near : Neighbourhood} {work : List ℕ} {head paint : ℕ} {t : Tally} → Flood h w near work head t → Tinted (h * w) work head t.taken paint → head < t.taken → Turn h w near work t head (plane (h * w) 2 work head) 0 work t
 turn_start {work = work} {head = head} f tint lh = record {
   flood = f;
   is = refl;
@@ -49,7 +51,7 @@ turn_start {work = work} {head = head} f tint lh = record {
   taken = le_refl _;
 }
 
-module _ {h w steps : ℕ} {work₀ : List ℕ} {t₀ : Tally} {head p k : ℕ} {work : List ℕ} {t : Tally} (u : Turn h w steps work₀ t₀ head p k work t) (lh : head < t₀.taken) where
+module _ {h w : ℕ} {near : Neighbourhood} {work₀ : List ℕ} {t₀ : Tally} {head p k : ℕ} {work : List ℕ} {t : Tally} (u : Turn h w near work₀ t₀ head p k work t) (lh : head < t₀.taken) where
   -- p is on the grid and has the last label
   pub turn_in : p < h * w
   turn_in = let l = (u.flood.filled.order.placed head (omega (arith, u.taken))).0 in omega (arith, u.is)
@@ -61,35 +63,35 @@ module _ {h w steps : ℕ} {work₀ : List ℕ} {t₀ : Tally} {head p k : ℕ} 
   turn_opaque : opaque (cells_of (h * w) work) p ≡ true
   turn_opaque =
       let f = u.flood.filled in
-      labelled-opaque (h * w) (neighbours steps w) (cells_of (h * w) work) (len f) (symm f) f.labels p turn_in (λ z. omega (arith, turn_mine, u.flood.some))
+      labelled-opaque (h * w) (neighbours near w) (cells_of (h * w) work) (len f) (symm f) f.labels p turn_in (λ z. omega (arith, turn_mine, u.flood.some))
 
-  module _ (lk : k < steps) where
-    turn_link : (q : ℕ) → hop h w p k ≡ some q → plane (h * w) 0 work q ≡ plane (h * w) 0 work p → link (neighbours steps w) (cells_of (h * w) work) p q ≡ true
+  module _ (lk : k < steps_of near) where
+    turn_link : (q : ℕ) → hop h w p k ≡ Some q → plane (h * w) 0 work q ≡ plane (h * w) 0 work p → link (neighbours near w) (cells_of (h * w) work) p q ≡ true
     turn_link q e same =
         let f = u.flood.filled in
         let lq = hop_in h w p k q e in
-        to-link (neighbours steps w) (cells_of (h * w) work) p q (neighbours-sound steps f.sized.count h w p k q lk e) turn_opaque
+        to-link (neighbours near w) (cells_of (h * w) work) p q (neighbours-sound near h w p k q lk e) turn_opaque
         (cells_at (h * w) work p turn_in ∙ ap cell_of (sym same) ∙ sym (cells_at (h * w) work q lq))
 
-    turn_kept : ((q : ℕ) → hop h w p k ≡ some q → plane (h * w) 0 work q ≡ plane (h * w) 0 work p → plane (h * w) 1 work q ≡ 0 → ⊥) → Turn h w steps work₀ t₀ head p (k + 1) work t
+    turn_kept : ((q : ℕ) → hop h w p k ≡ Some q → plane (h * w) 0 work q ≡ plane (h * w) 0 work p → plane (h * w) 1 work q ≡ 0 → ⊥) → Turn h w near work₀ t₀ head p (k + 1) work t
     turn_kept not = record {
       flood = u.flood;
       is = u.is;
-      done = λ j q l e. elim (dec_lt j k) [ yes m ↦ u.done j q m e | no m ↦ (let z : j ≡ k = omega arith in not q (subst (λ (x : ℕ). hop h w p x ≡ some q) z e)) ];
+      done = λ j q l e. elim (dec_lt j k) [ yes m ↦ u.done j q m e | no m ↦ (let z : j ≡ k = omega arith in not q (subst (λ (x : ℕ). hop h w p x ≡ Some q) z e)) ];
       alike = u.alike;
       since = u.since;
       regions = u.regions;
       taken = u.taken;
     }
 
-    module _ (q : ℕ) (e : hop h w p k ≡ some q) (same : plane (h * w) 0 work q ≡ plane (h * w) 0 work p) (free : plane (h * w) 1 work q ≡ 0) where
+    module _ (q : ℕ) (e : hop h w p k ≡ Some q) (same : plane (h * w) 0 work q ≡ plane (h * w) 0 work p) (free : plane (h * w) 1 work q ≡ 0) where
       abbrev m : ℕ
       m = t.regions
 
       abbrev new : List ℕ
       new = joined (h * w) q m t.taken work
 
-      abbrev f : Filled h w steps work (t.regions - 1) t (Waits (h * w) work head t.taken)
+      abbrev f : Filled h w near work (t.regions - 1) t (Waits (h * w) work head t.taken)
       f = u.flood.filled
 
       lq : q < h * w
@@ -104,9 +106,9 @@ module _ {h w steps : ℕ} {work₀ : List ℕ} {t₀ : Tally} {head p k : ℕ} 
       fits_in : t.taken < h * w
       fits_in = room_left f.order q lq free
 
-      took_label : label_at (h * w) (neighbours steps w) (cells_of (h * w) work) q ≡ m
+      took_label : label_at (h * w) (neighbours near w) (cells_of (h * w) work) q ≡ m
       took_label =
-          sym (link-label (h * w) (neighbours steps w) (cells_of (h * w) work) (len f) (symm f) p q (turn_link q e same))
+          sym (link-label (h * w) (neighbours near w) (cells_of (h * w) work) (len f) (symm f) p q (turn_link q e same))
           ∙ sym (f.labels.right p turn_in (λ z. omega (arith, turn_mine, u.flood.some))) ∙ turn_mine
 
       most : (r : ℕ) → r < h * w → plane (h * w) 1 work r ≤ m
@@ -119,7 +121,7 @@ module _ {h w steps : ℕ} {work₀ : List ℕ} {t₀ : Tally} {head p k : ℕ} 
             | no k ↦ (let z : i ≡ t.taken = omega arith in ap (group_at (h * w) new) z ∙ at_new put lq free u.flood.some f.order most)
           ]
 
-      took_flood : Flood h w steps new head (record { regions = m; taken = t.taken + 1 })
+      took_flood : Flood h w near new head (record { regions = m; taken = t.taken + 1 })
       took_flood = record {
         filled =
             filled_put f q m lq free (omega (arith, u.flood.some)) (omega (arith, f.under)) (le_refl m) took_label (λ k l. inl l)
@@ -132,7 +134,7 @@ module _ {h w steps : ℕ} {work₀ : List ℕ} {t₀ : Tally} {head p k : ℕ} 
       paint_kept : (r : ℕ) → r < h * w → plane (h * w) 0 new r ≡ plane (h * w) 0 work r
       paint_kept r lr = grown.kept.others 0 r (inl refl) lr
 
-      took_done : (j r : ℕ) → j < k + 1 → hop h w p j ≡ some r → plane (h * w) 0 new r ≡ plane (h * w) 0 new p → plane (h * w) 1 new r ≡ 0 → ⊥
+      took_done : (j r : ℕ) → j < k + 1 → hop h w p j ≡ Some r → plane (h * w) 0 new r ≡ plane (h * w) 0 new p → plane (h * w) 1 new r ≡ 0 → ⊥
       took_done j r l g paint z =
           elim (ℕ_discrete r q) [
             | yes y ↦ omega (arith, u.flood.some, put.mine, ap (plane (h * w) 1 new) y)
@@ -153,7 +155,7 @@ module _ {h w steps : ℕ} {work₀ : List ℕ} {t₀ : Tally} {head p k : ℕ} 
                 ap (λ (x : ℕ). plane (h * w) 0 new (plane (h * w) 2 new x)) z ∙ ap (plane (h * w) 0 new) put.last ∙ paint_kept q lq ∙ same ∙ sym (paint_kept p turn_in))
           ]
 
-      turn_took : Turn h w steps work₀ t₀ head p (k + 1) new (record { regions = m; taken = t.taken + 1 })
+      turn_took : Turn h w near work₀ t₀ head p (k + 1) new (record { regions = m; taken = t.taken + 1 })
       turn_took = record {
         flood = took_flood;
         is = put.older head (omega (arith, u.taken, fits_in)) (λ z. omega (arith, u.taken)) ∙ u.is;
@@ -164,8 +166,8 @@ module _ {h w steps : ℕ} {work₀ : List ℕ} {t₀ : Tally} {head p k : ℕ} 
         taken = omega (arith, u.taken);
       }
 
-pub turn_on : {h w steps : ℕ} {work₀ : List ℕ} {t₀ : Tally} {head p k : ℕ} {work new : List ℕ} {t next : Tally} → Turn h w steps work₀ t₀ head p k work t → head < t₀.taken → k < steps →
-    Visited (h * w) (step_to h w (p / w) (p % w) (rows_of k) (cols_of k)) (plane (h * w) 0 work p) work t new next → Turn h w steps work₀ t₀ head p (k + 1) new next
+pub turn_on : {h w : ℕ} {near : Neighbourhood} {work₀ : List ℕ} {t₀ : Tally} {head p k : ℕ} {work new : List ℕ} {t next : Tally} → Turn h w near work₀ t₀ head p k work t → head < t₀.taken → k < steps_of near →
+    Visited (h * w) (step_to h w (p / w) (p % w) (rows_of k) (cols_of k)) (plane (h * w) 0 work p) work t new next → Turn h w near work₀ t₀ head p (k + 1) new next
 unfolding hop
 turn_on u lh lk (Visited.kept not) = turn_kept u lh lk not
 turn_on u lh lk (Visited.took q e same free) = turn_took u lh lk q e same free
@@ -179,8 +181,8 @@ fewer g f = record {
   closed = λ p q lp lq nz k. ⊎_elim (λ a. inl a) (λ o. f p q lp lq k o) (g.closed p q lp lq nz k);
 }
 
-refilled : {h w steps : ℕ} {work : List ℕ} {done : ℕ} {t : Tally} {Open New : ℕ → Type 0} → Filled h w steps work done t Open →
-    ((p q : ℕ) → p < h * w → q < h * w → link (neighbours steps w) (cells_of (h * w) work) p q ≡ true → Open p → (plane (h * w) 1 work q ≡ 0 → ⊥) ⊎ New p) → Filled h w steps work done t New
+refilled : {h w : ℕ} {near : Neighbourhood} {work : List ℕ} {done : ℕ} {t : Tally} {Open New : ℕ → Type 0} → Filled h w near work done t Open →
+    ((p q : ℕ) → p < h * w → q < h * w → link (neighbours near w) (cells_of (h * w) work) p q ≡ true → Open p → (plane (h * w) 1 work q ≡ 0 → ⊥) ⊎ New p) → Filled h w near work done t New
 refilled f g = record { sized = f.sized; labels = fewer f.labels g; order = f.order; ended = f.ended; under = f.under }
 
 -- linked places have one paint
@@ -189,48 +191,48 @@ link_paint adj n work p q lp lq k =
     sym (cells_paint n work q lq) ∙ ap paint_of (sym (link-same adj (cells_of n work) p q k)) ∙ cells_paint n work p lp
 
 -- all neighbours are done: on to the next place that waits
-pub turn_off : {h w steps : ℕ} {work₀ : List ℕ} {t₀ : Tally} {head p k : ℕ} {work : List ℕ} {t : Tally} → Turn h w steps work₀ t₀ head p k work t → head < t₀.taken → steps ≤ k → Flood h w steps work (head + 1) t
-turn_off {h = h} {w = w} {steps = steps} {head = head} {p = p} {work = work} {t = t} u lh all = record {
+pub turn_off : {h w : ℕ} {near : Neighbourhood} {work₀ : List ℕ} {t₀ : Tally} {head p k : ℕ} {work : List ℕ} {t : Tally} → Turn h w near work₀ t₀ head p k work t → head < t₀.taken → steps_of near ≤ k → Flood h w near work (head + 1) t
+turn_off {h = h} {w = w} {near = near} {head = head} {p = p} {work = work} {t = t} u lh all = record {
   filled = refilled u.flood.filled shut;
   wait = λ i lo hi. u.flood.wait i (omega arith) hi;
   some = u.flood.some;
 }
   where
-    shut : (r q : ℕ) → r < h * w → q < h * w → link (neighbours steps w) (cells_of (h * w) work) r q ≡ true → Waits (h * w) work head t.taken r → (plane (h * w) 1 work q ≡ 0 → ⊥) ⊎ Waits (h * w) work (head + 1) t.taken r
+    shut : (r q : ℕ) → r < h * w → q < h * w → link (neighbours near w) (cells_of (h * w) work) r q ≡ true → Waits (h * w) work head t.taken r → (plane (h * w) 1 work q ≡ 0 → ⊥) ⊎ Waits (h * w) work (head + 1) t.taken r
     shut r q lr lq k a =
         elim (ℕ_discrete a.at head) [
           | yes e ↦ (let z : r ≡ p = sym a.is ∙ ap (plane (h * w) 2 work) e ∙ u.is in
-              let c = neighbours_complete steps u.flood.filled.sized.count h w r q lq (link-adj (neighbours steps w) (cells_of (h * w) work) r q k) in
-              inl (u.done c.0 q (omega (arith, c.1)) (subst (λ (x : ℕ). hop h w x c.0 ≡ some q) z c.2) (link_paint (neighbours steps w) (h * w) work r q lr lq k ∙ ap (plane (h * w) 0 work) z)))
+              let c = neighbours_complete near h w r q lq (link-adj (neighbours near w) (cells_of (h * w) work) r q k) in
+              inl (u.done c.0 q (omega (arith, c.1)) (subst (λ (x : ℕ). hop h w x c.0 ≡ Some q) z c.2) (link_paint (neighbours near w) (h * w) work r q lr lq k ∙ ap (plane (h * w) 0 work) z)))
           | no ne ↦ inr (record { at = a.at; low = omega (arith, a.low); high = a.high; is = a.is })
         ]
 
 -- nothing waits: the region is whole
-pub whole : {h w steps : ℕ} {work : List ℕ} {head : ℕ} {t : Tally} → Flood h w steps work head t → t.taken ≤ head → Filled h w steps work (t.regions - 1) t Shut
+pub whole : {h w : ℕ} {near : Neighbourhood} {work : List ℕ} {head : ℕ} {t : Tally} → Flood h w near work head t → t.taken ≤ head → Filled h w near work (t.regions - 1) t Shut
 whole f le = refilled f.filled (λ p q lp lq k a. absurd (omega (arith, a.low, a.high)))
 
 -- ---- a region of one cell
 
 -- the words of the neighbours after s, none of which is the one asked for
-module _ (n w steps s word : ℕ) (work : List ℕ) (pw : 0 < w) (next : get_or work (n + s + 1) 0 ≡ word → ⊥) (below : get_or work (n + s + w) 0 ≡ word → ⊥) where
+module _ (n w s word : ℕ) (work : List ℕ) (pw : 0 < w) (next : get_or work (n + s + 1) 0 ≡ word → ⊥) (below : get_or work (n + s + w) 0 ≡ word → ⊥) where
   unread : (q i : ℕ) → i ≡ n + q → (get_or work i 0 ≡ word → ⊥) → plane n 1 work q ≡ word → ⊥
   unread q i e f z = f (plane_read n 1 q i work (omega arith) ∙ z)
 
-  pub alone_four : steps ≡ 4 → Alone n w steps work s word
-  alone_four e = record {
+  pub alone_four : Alone n w Four work s word
+  alone_four = record {
     none = λ q l a.
-        ⊎_elim (λ y. unread q (n + s + 1) (omega arith) next) (λ y. unread q (n + s + w) (omega arith) below) (four-after w s q pw l (sym (ap (λ (f : ℕ → ℕ → Bool). f s q) (neighbours-four w e)) ∙ a));
+        ⊎_elim (λ y. unread q (n + s + 1) (omega arith) next) (λ y. unread q (n + s + w) (omega arith) below) (four-after w s q pw l (sym (ap (λ (f : ℕ → ℕ → Bool). f s q) (neighbours-four w)) ∙ a));
   }
 
-  pub alone_eight : steps ≡ 8 → (get_or work (n + s + w - 1) 0 ≡ word → ⊥) → (get_or work (n + s + w + 1) 0 ≡ word → ⊥) → Alone n w steps work s word
-  alone_eight e left right = record { none = λ q l a. go q (eight-after w s q pw l (sym (ap (λ (f : ℕ → ℕ → Bool). f s q) (neighbours-eight w e)) ∙ a)) }
+  pub alone_eight : (get_or work (n + s + w - 1) 0 ≡ word → ⊥) → (get_or work (n + s + w + 1) 0 ≡ word → ⊥) → Alone n w Eight work s word
+  alone_eight left right = record { none = λ q l a. go q (eight-after w s q pw l (sym (ap (λ (f : ℕ → ℕ → Bool). f s q) (neighbours-eight w)) ∙ a)) }
     where
       go : (q : ℕ) → After w s q → plane n 1 work q ≡ word → ⊥
       go q (After.next y) = unread q (n + s + 1) (omega arith) next
       go q (After.below y) = unread q (n + s + w) (omega arith) below
       go q (After.aside a) = ⊎_elim (λ y. unread q (n + s + w - 1) (omega arith) left) (λ y. unread q (n + s + w + 1) (omega arith) right) a.is
 
-module _ {h w steps : ℕ} {work : List ℕ} {s head : ℕ} {t : Tally} (b : Begun h w steps work s head t) where
+module _ {h w : ℕ} {near : Neighbourhood} {work : List ℕ} {s head : ℕ} {t : Tally} (b : Begun h w near work s head t) where
   -- s is on the grid, has the last label and the paint of what waits
   pub alone_in : s < h * w
   alone_in = let l = (b.flood.filled.order.placed head (omega (arith, b.last))).0 in omega (arith, b.is)
@@ -243,23 +245,23 @@ module _ {h w steps : ℕ} {work : List ℕ} {s head : ℕ} {t : Tally} (b : Beg
   alone_paint tint = ap (plane (h * w) 0 work) (sym b.is) ∙ tint.alike head (le_refl head) (omega (arith, b.last))
 
   -- if nothing after s joins it, the region is whole
-  module _ (none : (q : ℕ) → q < h * w → s < q → neighbours steps w s q ≡ true → plane (h * w) 0 work q ≡ plane (h * w) 0 work s → plane (h * w) 1 work q ≡ 0 → ⊥) where
-    alone_done : (q : ℕ) → q < h * w → link (neighbours steps w) (cells_of (h * w) work) s q ≡ true → plane (h * w) 1 work q ≡ 0 → ⊥
+  module _ (none : (q : ℕ) → q < h * w → s < q → neighbours near w s q ≡ true → plane (h * w) 0 work q ≡ plane (h * w) 0 work s → plane (h * w) 1 work q ≡ 0 → ⊥) where
+    alone_done : (q : ℕ) → q < h * w → link (neighbours near w) (cells_of (h * w) work) s q ≡ true → plane (h * w) 1 work q ≡ 0 → ⊥
     alone_done q lq k z =
         elim (dec_lt q s) [
-          | yes l ↦ b.before q l (link-right (neighbours steps w) (cells_of (h * w) work) s q k) z
+          | yes l ↦ b.before q l (link-right (neighbours near w) (cells_of (h * w) work) s q k) z
           | no m ↦ elim (dec_lt s q) [
-            | yes l ↦ none q lq l (link-adj (neighbours steps w) (cells_of (h * w) work) s q k) (link_paint (neighbours steps w) (h * w) work s q alone_in lq k) z
+            | yes l ↦ none q lq l (link-adj (neighbours near w) (cells_of (h * w) work) s q k) (link_paint (neighbours near w) (h * w) work s q alone_in lq k) z
             | no r ↦ (let e : q ≡ s = omega arith in omega (arith, b.flood.some, alone_mine, ap (plane (h * w) 1 work) e))
           ]
         ]
 
-    pub alone_whole : Filled h w steps work (t.regions - 1) t Shut
+    pub alone_whole : Filled h w near work (t.regions - 1) t Shut
     alone_whole =
         refilled b.flood.filled (λ p q lp lq k a.
         let y : a.at ≡ head = omega (arith, a.low, a.high, b.last) in
         let e : p ≡ s = sym a.is ∙ ap (plane (h * w) 2 work) y ∙ b.is in
-        inl (alone_done q lq (subst (λ (x : ℕ). link (neighbours steps w) (cells_of (h * w) work) x q ≡ true) e k)))
+        inl (alone_done q lq (subst (λ (x : ℕ). link (neighbours near w) (cells_of (h * w) work) x q ≡ true) e k)))
 
 -- ---- a region ends: its end is stored in plane 3
 
@@ -302,7 +304,7 @@ module _ {n : ℕ} {work new : List ℕ} (s : Same n work new) where
       listed = λ p lp nz. let f = o.listed p lp (λ z. nz (s.low 1 p (lit< tt) lp ∙ z)) in (f.0, f.1, same_place f.0 f.1 ∙ f.2);
     }
 
-module _ {h w steps : ℕ} {work : List ℕ} {t : Tally} {done : ℕ} (f : Filled h w steps work done t Shut) (next : t.regions ≡ done + 1) where
+module _ {h w : ℕ} {near : Neighbourhood} {work : List ℕ} {t : Tally} {done : ℕ} (f : Filled h w near work done t Shut) (next : t.regions ≡ done + 1) where
   abbrev stored : List ℕ
   stored = set work (3 * (h * w) + done) t.taken
 
@@ -345,7 +347,7 @@ module _ {h w steps : ℕ} {work : List ℕ} {t : Tally} {done : ℕ} (f : Fille
   unfolding group_at
   group-most i li = let g = f.labels.most (plane (h * w) 2 work i) (f.order.placed i li).0 in omega (arith, same-group same f.order i li)
 
-  end_ended : Ended (neighbours steps w) (cells_of (h * w) work) (h * w) stored t.regions t.regions t.taken
+  end_ended : Ended (neighbours near w) (cells_of (h * w) work) (h * w) stored t.regions t.regions t.taken
   end_ended =
       let d = f.ended in
       record {
@@ -359,17 +361,17 @@ module _ {h w steps : ℕ} {work : List ℕ} {t : Tally} {done : ℕ} (f : Fille
         foremost = λ k l.
             let e : plane (h * w) 2 stored (end_of (h * w) stored k) ≡ plane (h * w) 2 work (end_of (h * w) work k) =
             ap (plane (h * w) 2 stored) (end_old k (omega arith)) ∙ same_place same f.order (end_of (h * w) work k) (d.begun k l) in
-            ap (root (h * w) (neighbours steps w) (cells_of (h * w) work)) e ∙ d.foremost k l ∙ sym e;
+            ap (root (h * w) (neighbours near w) (cells_of (h * w) work)) e ∙ d.foremost k l ∙ sym e;
       }
 
-  pub end_filled : Filled h w steps stored t.regions t Shut
+  pub end_filled : Filled h w near stored t.regions t Shut
   end_filled =
       let c : cells_of (h * w) work ≡ cells_of (h * w) stored = sym (sheet_kept end_since.kept) in
       record {
-        sized = record { rows = f.sized.rows; cols = f.sized.cols; count = f.sized.count; planes = omega (arith, f.sized.planes, same.size) };
-        labels = subst (λ (x : List ℤ). Right (neighbours steps w) x (h * w) stored t.regions Shut) c (same-right same f.labels);
+        sized = record { rows = f.sized.rows; cols = f.sized.cols; planes = omega (arith, f.sized.planes, same.size) };
+        labels = subst (λ (x : List ℤ). Right (neighbours near w) x (h * w) stored t.regions Shut) c (same-right same f.labels);
         order = same_order same f.order;
-        ended = subst (λ (x : List ℤ). Ended (neighbours steps w) x (h * w) stored t.regions t.regions t.taken) c end_ended;
+        ended = subst (λ (x : List ℤ). Ended (neighbours near w) x (h * w) stored t.regions t.regions t.taken) c end_ended;
         under = f.under;
       }
 
@@ -381,24 +383,24 @@ labelled_since p since lp has o z =
 
 -- ---- the place s, all opaque places before which have their labels
 
-module _ {h w steps : ℕ} {work : List ℕ} {t : Tally} {s : ℕ} (f : Filled h w steps work t.regions t Shut) (passed : LabelledTo h w steps work t s) (ls : s < h * w) where
+module _ {h w : ℕ} {near : Neighbourhood} {work : List ℕ} {t : Tally} {s : ℕ} (f : Filled h w near work t.regions t Shut) (passed : LabelledTo h w near work t s) (ls : s < h * w) where
   abbrev sheet : List ℤ
   sheet = cells_of (h * w) work
 
   -- nothing begins at s
-  pass_on : first sheet (roots (h * w) (neighbours steps w) sheet) s ≡ false → (opaque sheet s ≡ true → plane (h * w) 1 work s ≡ 0 → ⊥) → LabelledTo h w steps work t (s + 1)
+  pass_on : first sheet (roots (h * w) (neighbours near w) sheet) s ≡ false → (opaque sheet s ≡ true → plane (h * w) 1 work s ≡ 0 → ⊥) → LabelledTo h w near work t (s + 1)
   pass_on z has = record {
     labelled = λ p lp o e. elim (ℕ_discrete p s) [ yes y ↦ has (subst (λ (x : ℕ). opaque sheet x ≡ true) y o) (sym (ap (plane (h * w) 1 work) y) ∙ e) | no n ↦ passed.labelled p (omega arith) o e ];
-    number = passed.number ∙ sym (not_first (h * w) (neighbours steps w) sheet (len f) (symm f) s z);
+    number = passed.number ∙ sym (not_first (h * w) (neighbours near w) sheet (len f) (symm f) s z);
   }
 
-  pub pass_clear : plane (h * w) 0 work s ≡ 0 → LabelledTo h w steps work t (s + 1)
+  pub pass_clear : plane (h * w) 0 work s ≡ 0 → LabelledTo h w near work t (s + 1)
   pass_clear e =
       let z : opaque sheet s ≡ false = opaque_paint (h * w) work s ls ∙ ap (ltb 0) e in
-      pass_on (clear_not_first (h * w) (neighbours steps w) sheet (len f) (symm f) s z) (λ o k. clash o z)
+      pass_on (clear_not_first (h * w) (neighbours near w) sheet (len f) (symm f) s z) (λ o k. clash o z)
 
-  pub pass_old : (plane (h * w) 1 work s ≡ 0 → ⊥) → LabelledTo h w steps work t (s + 1)
-  pass_old nz = pass_on (old_not_first (h * w) (neighbours steps w) sheet (len f) (symm f) f.labels s ls passed.labelled passed.number nz) (λ o. nz)
+  pub pass_old : (plane (h * w) 1 work s ≡ 0 → ⊥) → LabelledTo h w near work t (s + 1)
+  pass_old nz = pass_on (old_not_first (h * w) (neighbours near w) sheet (len f) (symm f) f.labels s ls passed.labelled passed.number nz) (λ o. nz)
 
   -- a region begins at s
   module _ (paint : plane (h * w) 0 work s ≡ 0 → ⊥) (free : plane (h * w) 1 work s ≡ 0) where
@@ -411,11 +413,11 @@ module _ {h w steps : ℕ} {work : List ℕ} {t : Tally} {s : ℕ} (f : Filled h
     opaque-here : opaque sheet s ≡ true
     opaque-here = opaque_paint (h * w) work s ls ∙ lt-ltb 0 (plane (h * w) 0 work s) (omega arith)
 
-    root-here : root (h * w) (neighbours steps w) sheet s ≡ s
-    root-here = next-root (h * w) (neighbours steps w) sheet (len f) (symm f) f.labels s ls passed.labelled opaque-here free
+    root-here : root (h * w) (neighbours near w) sheet s ≡ s
+    root-here = next-root (h * w) (neighbours near w) sheet (len f) (symm f) f.labels s ls passed.labelled opaque-here free
 
-    first-here : first sheet (roots (h * w) (neighbours steps w) sheet) s ≡ true
-    first-here = root-is-first (h * w) (neighbours steps w) sheet (len f) (symm f) s opaque-here root-here
+    first-here : first sheet (roots (h * w) (neighbours near w) sheet) s ≡ true
+    first-here = root-is-first (h * w) (neighbours near w) sheet (len f) (symm f) s opaque-here root-here
 
     put_begun : Put (h * w) work s (t.regions + 1) t.taken begun
     put_begun = put_here f s (t.regions + 1) ls free
@@ -436,24 +438,24 @@ module _ {h w steps : ℕ} {work : List ℕ} {t : Tally} {s : ℕ} (f : Filled h
               omega arith)
         ]
 
-    foremost_here : (k : ℕ) → k < t.regions + 1 → (k < t.regions) ⊎ ((end_of (h * w) work k ≡ t.taken) × (root (h * w) (neighbours steps w) sheet s ≡ s))
+    foremost_here : (k : ℕ) → k < t.regions + 1 → (k < t.regions) ⊎ ((end_of (h * w) work k ≡ t.taken) × (root (h * w) (neighbours near w) sheet s ≡ s))
     foremost_here k l =
         elim (dec_lt k t.regions) [
           | yes m ↦ inl m
           | no m ↦ (let e : k ≡ t.regions = omega arith in inr (ap (end_of (h * w) work) e ∙ full, root-here))
         ]
 
-    begin_filled : Filled h w steps begun t.regions next (Waits (h * w) begun t.taken (t.taken + 1))
+    begin_filled : Filled h w near begun t.regions next (Waits (h * w) begun t.taken (t.taken + 1))
     begin_filled =
         filled_put f s (t.regions + 1) ls free refl f.under (omega arith)
-        (first-number (h * w) (neighbours steps w) sheet (len f) (symm f) s first-here ∙ ap (λ (x : ℕ). x + 1) (sym passed.number))
+        (first-number (h * w) (neighbours near w) sheet (len f) (symm f) s first-here ∙ ap (λ (x : ℕ). x + 1) (sym passed.number))
         foremost_here (λ p a. absurd a) (record { at = t.taken; low = le_refl _; high = omega arith; is = put_begun.last })
 
-    begin_flood : Flood h w steps begun t.taken next
+    begin_flood : Flood h w near begun t.taken next
     begin_flood =
         let d : t.regions ≡ t.regions + 1 - 1 = omega arith in
         record {
-          filled = subst (λ (x : ℕ). Filled h w steps begun x next (Waits (h * w) begun t.taken (t.taken + 1))) d begin_filled;
+          filled = subst (λ (x : ℕ). Filled h w near begun x next (Waits (h * w) begun t.taken (t.taken + 1))) d begin_filled;
           wait = λ i lo hi.
               let e : i ≡ t.taken = omega arith in
               ap (group_at (h * w) begun) e ∙ at_new put_begun ls free (omega arith) f.order (λ p lp. let l = f.labels.most p lp in omega arith);
@@ -461,7 +463,7 @@ module _ {h w steps : ℕ} {work : List ℕ} {t : Tally} {s : ℕ} (f : Filled h
         }
 
     -- s alone waits, and what waits has its paint
-    pub begin_alone : Begun h w steps begun s t.taken next
+    pub begin_alone : Begun h w near begun s t.taken next
     begin_alone = record {
       flood = begin_flood;
       last = refl;
@@ -477,9 +479,9 @@ module _ {h w steps : ℕ} {work : List ℕ} {t : Tally} {s : ℕ} (f : Filled h
     }
 
     -- once it is whole, and its end is stored
-    module _ {new : List ℕ} {r : Tally} (g : Filled h w steps new (r.regions - 1) r Shut) (num : r.regions ≡ t.regions + 1) (since : Since (h * w) begun new) where
-      begun-filled : Filled h w steps new t.regions r Shut
-      begun-filled = let d : r.regions - 1 ≡ t.regions = omega arith in subst (λ (x : ℕ). Filled h w steps new x r Shut) d g
+    module _ {new : List ℕ} {r : Tally} (g : Filled h w near new (r.regions - 1) r Shut) (num : r.regions ≡ t.regions + 1) (since : Since (h * w) begun new) where
+      begun-filled : Filled h w near new t.regions r Shut
+      begun-filled = let d : r.regions - 1 ≡ t.regions = omega arith in subst (λ (x : ℕ). Filled h w near new x r Shut) d g
 
       abbrev closing : List ℕ
       closing = set new (3 * (h * w) + t.regions) r.taken
@@ -487,13 +489,13 @@ module _ {h w steps : ℕ} {work : List ℕ} {t : Tally} {s : ℕ} (f : Filled h
       pub closed_size : 3 * (h * w) + t.regions < length new
       closed_size = end_size begun-filled num
 
-      pub closed_filled : Filled h w steps closing r.regions r Shut
+      pub closed_filled : Filled h w near closing r.regions r Shut
       closed_filled = end_filled begun-filled num
 
       pub closed_since : Since (h * w) work closing
       closed_since = since_trans (since_trans (put_since put_begun ls free (omega arith)) since) (end_since begun-filled num)
 
-      pub closed_passed : LabelledTo h w steps closing r (s + 1)
+      pub closed_passed : LabelledTo h w near closing r (s + 1)
       closed_passed =
           let c : cells_of (h * w) closing ≡ sheet = sheet_kept closed_since.kept in
           record {
@@ -505,14 +507,14 @@ module _ {h w steps : ℕ} {work : List ℕ} {t : Tally} {s : ℕ} (f : Filled h
                   | no n ↦ labelled_since p closed_since (omega arith) (passed.labelled p (omega arith)) o e
                 ];
             number =
-                num ∙ ap (λ (x : ℕ). x + 1) passed.number ∙ sym (first_next (h * w) (neighbours steps w) sheet (len f) (symm f) s first-here)
-                ∙ ap (λ (x : List ℤ). count (s + 1) (first x (roots (h * w) (neighbours steps w) x))) (sym c);
+                num ∙ ap (λ (x : ℕ). x + 1) passed.number ∙ sym (first_next (h * w) (neighbours near w) sheet (len f) (symm f) s first-here)
+                ∙ ap (λ (x : List ℤ). count (s + 1) (first x (roots (h * w) (neighbours near w) x))) (sym c);
           }
 
 -- ---- before the first place, and after the last
 
-module _ {h w steps : ℕ} {work : List ℕ} (sized : Sized h w steps work) (blank : (p : ℕ) → p < h * w → plane (h * w) 1 work p ≡ 0) where
-  pub start-filled : Filled h w steps work 0 (record { regions = 0; taken = 0 }) Shut
+module _ {h w : ℕ} {near : Neighbourhood} {work : List ℕ} (sized : Sized h w work) (blank : (p : ℕ) → p < h * w → plane (h * w) 1 work p ≡ 0) where
+  pub start-filled : Filled h w near work 0 (record { regions = 0; taken = 0 }) Shut
   unfolding blanks end_of
   start-filled = record {
     sized = sized;
@@ -537,22 +539,22 @@ module _ {h w steps : ℕ} {work : List ℕ} (sized : Sized h w steps work) (bla
     under = le_refl 0;
   }
 
-  pub start_passed : LabelledTo h w steps work (record { regions = 0; taken = 0 }) 0
+  pub start_passed : LabelledTo h w near work (record { regions = 0; taken = 0 }) 0
   unfolding count
   start_passed = record { labelled = λ p l. absurd (not-suc-le-zero l); number = refl }
 
-all_number : {h w steps : ℕ} {work : List ℕ} {t : Tally} {s : ℕ} → LabelledTo h w steps work t s → s ≡ h * w → t.regions ≡ regions (h * w) (neighbours steps w) (cells_of (h * w) work)
+all_number : {h w : ℕ} {near : Neighbourhood} {work : List ℕ} {t : Tally} {s : ℕ} → LabelledTo h w near work t s → s ≡ h * w → t.regions ≡ regions (h * w) (neighbours near w) (cells_of (h * w) work)
 unfolding regions
-all_number {h = h} {w = w} {steps = steps} {work = work} passed e =
-    passed.number ∙ ap (λ (x : ℕ). count x (first (cells_of (h * w) work) (roots (h * w) (neighbours steps w) (cells_of (h * w) work)))) e
+all_number {h = h} {w = w} {near = near} {work = work} passed e =
+    passed.number ∙ ap (λ (x : ℕ). count x (first (cells_of (h * w) work) (roots (h * w) (neighbours near w) (cells_of (h * w) work)))) e
 
-pub all_labelled : {h w steps : ℕ} {work₀ work : List ℕ} {t : Tally} {s : ℕ} → Filled h w steps work t.regions t Shut → LabelledTo h w steps work t s → s ≡ h * w → PlanesKept (h * w) work₀ work →
-    Labelled (neighbours steps w) (cells_of (h * w) work₀) (h * w) work t.regions t.taken
-all_labelled {h = h} {w = w} {steps = steps} {work₀ = work₀} {work = work} {t = t} f passed e kept =
-    subst (λ (c : List ℤ). Labelled (neighbours steps w) c (h * w) work t.regions t.taken) (sheet_kept kept) (record {
+pub all_labelled : {h w : ℕ} {near : Neighbourhood} {work₀ work : List ℕ} {t : Tally} {s : ℕ} → Filled h w near work t.regions t Shut → LabelledTo h w near work t s → s ≡ h * w → PlanesKept (h * w) work₀ work →
+    Labelled (neighbours near w) (cells_of (h * w) work₀) (h * w) work t.regions t.taken
+all_labelled {h = h} {w = w} {near = near} {work₀ = work₀} {work = work} {t = t} f passed e kept =
+    subst (λ (c : List ℤ). Labelled (neighbours near w) c (h * w) work t.regions t.taken) (sheet_kept kept) (record {
       labels = λ p lp.
           case (opaque (cells_of (h * w) work) p) (λ o. f.labels.right p lp (passed.labelled p (omega arith) o))
-          (λ z. let k = clear_label (h * w) (neighbours steps w) (cells_of (h * w) work) (len f) (symm f) p z in
+          (λ z. let k = clear_label (h * w) (neighbours near w) (cells_of (h * w) work) (len f) (symm f) p z in
           elim (ℕ_discrete (plane (h * w) 1 work p) 0) [ yes y ↦ y ∙ sym k | no n ↦ absurd (n (f.labels.right p lp n ∙ k)) ]);
       count = all_number passed e;
       room = omega (arith, f.order.free);

@@ -13,6 +13,7 @@ use lib.ListN.{length, get_or, set, length-set, get_or-eq_default}
 use lib.Seq.{get_or-set_same, get_or-set_other, ext_get_or}
 use Rattle.base.proofs.Counting.{case, table_at, table-length}
 use Rattle.rules.specs.Regions.{opaque}
+use Rattle.grid.specs.declared.Neighbourhood.{Neighbourhood}
 use Rattle.grid.specs.Planes.{plane, cells_of}
 use Rattle.grid.proofs.Planes.{plane_read, plane_other, opaque_paint}
 use Rattle.labels.specs.Filling.{joined, shown, seen, Coded, Filled, Shut, LabelledTo, PlanesKept, word_of, Cleared}
@@ -153,9 +154,9 @@ module _ {n : ℕ} {work : List ℕ} (c : Coded n work) where
 
 -- ---- the place s, by its word
 
-module _ {h w steps : ℕ} {work : List ℕ} {t : Tally} {s : ℕ} (c : Coded (h * w) work) (f : Filled h w steps (seen (h * w) work) t.regions t Shut) (passed : LabelledTo h w steps (seen (h * w) work) t s) (ls : s < h * w) where
+module _ {h w : ℕ} {near : Neighbourhood} {work : List ℕ} {t : Tally} {s : ℕ} (c : Coded (h * w) work) (f : Filled h w near (seen (h * w) work) t.regions t Shut) (passed : LabelledTo h w near (seen (h * w) work) t s) (ls : s < h * w) where
   -- nothing begins at a place whose word is no code
-  pub pass-low : plane (h * w) 1 work s ≤ 264196 → LabelledTo h w steps (seen (h * w) work) t (s + 1)
+  pub pass-low : plane (h * w) 1 work s ≤ 264196 → LabelledTo h w near (seen (h * w) work) t (s + 1)
   pass-low low =
       ⊎_elim
       (λ a. elim (ℕ_discrete (plane (h * w) 1 work s) 0) [
@@ -165,15 +166,6 @@ module _ {h w steps : ℕ} {work : List ℕ} {t : Tally} {s : ℕ} (c : Coded (h
       (λ b. absurd (omega (arith, b.0, b.1))) (c.word s ls)
 
 -- ---- before the first place
-
-pub word_none : (x : ℕ) → x ≡ 0 → 0 ≡ word_of x
-unfolding word_of
-word_none x e = rw e
-
-pub word_some : (x : ℕ) → (x ≡ 0 → ⊥) → x + 264196 ≡ word_of x
-unfolding word_of
-word_some zero ne = absurd (ne refl)
-word_some (suc x) ne = refl
 
 module _ {n : ℕ} {old new : List ℕ} (k : Cleared n n old new) where
   word_code : (p : ℕ) → p < n → ((plane n 1 new p ≡ 0) × (plane n 0 new p ≡ 0)) ⊎ ((plane n 1 new p ≡ plane n 0 new p + 264196) × (0 < plane n 0 new p))

@@ -1,18 +1,17 @@
 -- What holds while regions are labelled: the contracts of the functions inside `label_planes`. Definitions only. Assumes nothing.
-use Rattle.std.specs.Prelude.{ℕ, zero, suc, ◌+◌, ◌-◌, ◌*◌, ◌≤◌, ◌<◌, ◌≡◌, ◌⊎◌, ◌↔◌, Bool, true, ◌&&◌, cond, List, eqb, leb, ltb, ℤ, length, set, get_or}
-use Rattle.std.proofs.Math.Option.{Option, some}
+use Rattle.std.specs.Prelude.{ℕ, zero, suc, ◌+◌, ◌-◌, ◌*◌, ◌≤◌, ◌<◌, ◌≡◌, ◌⊎◌, ◌↔◌, Bool, true, ◌&&◌, cond, List, eqb, leb, ltb, ℤ, length, set, get_or, Option, Some}
 use Rattle.base.specs.Places.{table, count}
 use Rattle.rules.specs.Regions.{opaque, link, roots, root, first}
 use Rattle.rules.specs.Masks.{label_at}
+use Rattle.grid.specs.declared.Neighbourhood.{Neighbourhood}
 use Rattle.grid.specs.Steps.{neighbours}
 use Rattle.grid.specs.Planes.{plane, cells_of, group_at, end_of}
 use Rattle.labels.specs.declared.Tally.{Tally}
 
--- at most 514 rows and columns, 4 or 8 steps, and a work area of eight planes
-pub record Sized (h w steps : ℕ) (work : List ℕ) : Type 0 where
+-- at most 514 rows and columns, and a work area of eight planes
+pub record Sized (h w : ℕ) (work : List ℕ) : Type 0 where
   pub rows : h ≤ 514
   pub cols : w ≤ 514
-  pub count : (steps ≡ 4) ⊎ (steps ≡ 8)
   pub planes : 8 * (h * w) ≤ length work
 
 -- a word of the work area as labelling sees it: in plane 1 a word beyond every label is none
@@ -58,11 +57,11 @@ pub record Ended (adj : ℕ → ℕ → Bool) (cells : List ℤ) (n : ℕ) (work
   pub foremost : (k : ℕ) → k < regions → root n adj cells (plane n 2 work (end_of n work k)) ≡ plane n 2 work (end_of n work k)
 
 -- all of it, for the sheet in plane 0
-pub record Filled (h w steps : ℕ) (work : List ℕ) (done : ℕ) (t : Tally) (Open : ℕ → Type 0) : Type 0 where
-  pub sized : Sized h w steps work
-  pub labels : Right (neighbours steps w) (cells_of (h * w) work) (h * w) work t.regions Open
+pub record Filled (h w : ℕ) (near : Neighbourhood) (work : List ℕ) (done : ℕ) (t : Tally) (Open : ℕ → Type 0) : Type 0 where
+  pub sized : Sized h w work
+  pub labels : Right (neighbours near w) (cells_of (h * w) work) (h * w) work t.regions Open
   pub order : Ordered (h * w) work t.taken
-  pub ended : Ended (neighbours steps w) (cells_of (h * w) work) (h * w) work done t.regions t.taken
+  pub ended : Ended (neighbours near w) (cells_of (h * w) work) (h * w) work done t.regions t.taken
   pub under : t.regions ≤ t.taken
 
 -- no place is open
@@ -77,30 +76,30 @@ pub record Waits (n : ℕ) (work : List ℕ) (head taken p : ℕ) : Type 0 where
   pub is : plane n 2 work at ≡ p
 
 -- the last region is being filled, and what waits is open
-pub record Flood (h w steps : ℕ) (work : List ℕ) (head : ℕ) (t : Tally) : Type 0 where
-  pub filled : Filled h w steps work (t.regions - 1) t (Waits (h * w) work head t.taken)
+pub record Flood (h w : ℕ) (near : Neighbourhood) (work : List ℕ) (head : ℕ) (t : Tally) : Type 0 where
+  pub filled : Filled h w near work (t.regions - 1) t (Waits (h * w) work head t.taken)
   pub wait : (i : ℕ) → head ≤ i → i < t.taken → group_at (h * w) work i ≡ t.regions
   pub some : 1 ≤ t.regions
 
 -- the last region is s alone, which waits at head, and every opaque place before s has a label
-pub record Begun (h w steps : ℕ) (work : List ℕ) (s head : ℕ) (t : Tally) : Type 0 where
-  pub flood : Flood h w steps work head t
+pub record Begun (h w : ℕ) (near : Neighbourhood) (work : List ℕ) (s head : ℕ) (t : Tally) : Type 0 where
+  pub flood : Flood h w near work head t
   pub last : t.taken ≡ head + 1
   pub is : plane (h * w) 2 work head ≡ s
   pub before : (p : ℕ) → p < s → opaque (cells_of (h * w) work) p ≡ true → plane (h * w) 1 work p ≡ 0 → ⊥
 
 -- no neighbour after s has the word in plane 1
-pub record Alone (n w steps : ℕ) (work : List ℕ) (s word : ℕ) : Type 0 where
-  pub none : (q : ℕ) → s < q → neighbours steps w s q ≡ true → plane n 1 work q ≡ word → ⊥
+pub record Alone (n w : ℕ) (near : Neighbourhood) (work : List ℕ) (s word : ℕ) : Type 0 where
+  pub none : (q : ℕ) → s < q → neighbours near w s q ≡ true → plane n 1 work q ≡ word → ⊥
 
 -- all that waits has one paint
 pub record Tinted (n : ℕ) (work : List ℕ) (head taken paint : ℕ) : Type 0 where
   pub alike : (i : ℕ) → head ≤ i → i < taken → plane n 0 work (plane n 2 work i) ≡ paint
 
 -- every opaque place before s has a label, and the regions are those whose first cell comes before s
-pub record LabelledTo (h w steps : ℕ) (work : List ℕ) (t : Tally) (s : ℕ) : Type 0 where
+pub record LabelledTo (h w : ℕ) (near : Neighbourhood) (work : List ℕ) (t : Tally) (s : ℕ) : Type 0 where
   pub labelled : (p : ℕ) → p < s → opaque (cells_of (h * w) work) p ≡ true → plane (h * w) 1 work p ≡ 0 → ⊥
-  pub number : t.regions ≡ count s (first (cells_of (h * w) work) (roots (h * w) (neighbours steps w) (cells_of (h * w) work)))
+  pub number : t.regions ≡ count s (first (cells_of (h * w) work) (roots (h * w) (neighbours near w) (cells_of (h * w) work)))
 
 -- the planes 0 and 4 to 7 are kept
 pub record PlanesKept (n : ℕ) (old new : List ℕ) : Type 0 where
@@ -114,8 +113,8 @@ pub record Since (n : ℕ) (old new : List ℕ) : Type 0 where
 
 -- what one step does that finds a cell or none, from a cell of that paint
 pub data Visited (n : ℕ) (found : Option ℕ) (paint : ℕ) (work : List ℕ) (t : Tally) : List ℕ → Tally → Type 0 where
-  kept : ((q : ℕ) → found ≡ some q → plane n 0 work q ≡ paint → plane n 1 work q ≡ 0 → ⊥) → Visited n found paint work t work t
-  took : (q : ℕ) → found ≡ some q → plane n 0 work q ≡ paint → plane n 1 work q ≡ 0 →
+  kept : ((q : ℕ) → found ≡ Some q → plane n 0 work q ≡ paint → plane n 1 work q ≡ 0 → ⊥) → Visited n found paint work t work t
+  took : (q : ℕ) → found ≡ Some q → plane n 0 work q ≡ paint → plane n 1 work q ≡ 0 →
       Visited n found paint work t (joined n q t.regions t.taken work) (record { regions = t.regions; taken = t.taken + 1 })
 
 -- the word of a place without a label: 0 for no paint, and otherwise its paint beyond every label

@@ -8,7 +8,7 @@ ghost use Rattle.grid.specs.Planes.{plane, cells_of, Labelled};
 ghost use Rattle.labels.specs.Filling.{Sized, seen, Coded, blanks, Filled, Shut, Flood, Begun, Alone, Tinted, LabelledTo, PlanesKept, Since, Visited, word_of, Cleared};
 
 use crate::Tally;
-use grid::{Grid, Move, OFFSETS8, Step, on_edge, reached};
+use grid::{Grid, Move, Neighbourhood, OFFSETS8, on_edge, reached};
 
 // No label is above it. A place without a label has in plane 1 its paint and this more.
 const MOST: u32 = 264196;
@@ -26,7 +26,7 @@ fn visit(work: &mut [u32], g: Grid, m: Move, code: u32, t: Tally) -> Tally
     ensures coded_2 { Coded (g.h * g.w) work.new }
 {
     let n = g.h * g.w;
-    let Step::Cell(q) = reached(m.p, m.dy, m.dx, m.border, g.h, g.w) else {
+    let Some(q) = reached(m.p, m.dy, m.dx, m.border, g.h, g.w) else {
         return t;
     };
     if work[n + q] != code {
@@ -45,28 +45,22 @@ fn visit(work: &mut [u32], g: Grid, m: Move, code: u32, t: Tally) -> Tally
 
 // The cell that waits at head: its neighbours join its region.
 fn visit_all(work: &mut [u32], g: Grid, head: usize, code: u32, from: Tally) -> Tally
-    requires flood { Flood g.h g.w g.steps (seen (g.h * g.w) work.old) head from × Coded (g.h * g.w) work.old × Tinted (g.h * g.w) (seen (g.h * g.w) work.old) head from.taken (code - 264196) }
+    requires flood { Flood g.h g.w g.near (seen (g.h * g.w) work.old) head from × Coded (g.h * g.w) work.old × Tinted (g.h * g.w) (seen (g.h * g.w) work.old) head from.taken (code - 264196) }
     requires head_lt_taken { (head < from.taken) × (264196 < code) }
-    ensures flood_2 { Flood g.h g.w g.steps (seen (g.h * g.w) work.new) (head + 1) result × Coded (g.h * g.w) work.new × Tinted (g.h * g.w) (seen (g.h * g.w) work.new) (head + 1) result.taken (code - 264196) }
+    ensures flood_2 { Flood g.h g.w g.near (seen (g.h * g.w) work.new) (head + 1) result × Coded (g.h * g.w) work.new × Tinted (g.h * g.w) (seen (g.h * g.w) work.new) (head + 1) result.taken (code - 264196) }
     ensures since { Since (g.h * g.w) (seen (g.h * g.w) work.old) (seen (g.h * g.w) work.new) }
     ensures regions_value { (result.regions ≡ from.regions) × (from.taken ≤ result.taken) }
 {
-    let h = g.h;
-    let w = g.w;
-    let n = h * w;
+    let n = g.h * g.w;
     let p = work[2 * n + head] as usize;
-    let border = on_edge(p, h, w);
-    let offsets = OFFSETS8;
-    let steps = g.steps;
+    let border = on_edge(p, g.h, g.w);
+    let steps = g.near.steps();
     let mut t = from;
     for k in 0..8 {
         if k == steps {
             return t;
         }
-        let o = offsets[k];
-        let dy = o[0];
-        let dx = o[1];
-        let g = Grid { h, w, steps };
+        let [dy, dx] = OFFSETS8[k];
         t = visit(work, g, Move { p, dy, dx, border }, code, t);
     }
     t
@@ -74,9 +68,9 @@ fn visit_all(work: &mut [u32], g: Grid, head: usize, code: u32, from: Tally) -> 
 
 // The whole region of the cells that wait from `first` on.
 fn flood(work: &mut [u32], g: Grid, first: usize, code: u32, from: Tally) -> Tally
-    requires flood { Flood g.h g.w g.steps (seen (g.h * g.w) work.old) first from × Coded (g.h * g.w) work.old × Tinted (g.h * g.w) (seen (g.h * g.w) work.old) first from.taken (code - 264196) }
+    requires flood { Flood g.h g.w g.near (seen (g.h * g.w) work.old) first from × Coded (g.h * g.w) work.old × Tinted (g.h * g.w) (seen (g.h * g.w) work.old) first from.taken (code - 264196) }
     requires lt_code { 264196 < code }
-    ensures filled { Filled g.h g.w g.steps (seen (g.h * g.w) work.new) (result.regions - 1) result Shut × Coded (g.h * g.w) work.new }
+    ensures filled { Filled g.h g.w g.near (seen (g.h * g.w) work.new) (result.regions - 1) result Shut × Coded (g.h * g.w) work.new }
     ensures since { Since (g.h * g.w) (seen (g.h * g.w) work.old) (seen (g.h * g.w) work.new) }
     ensures regions_value { result.regions ≡ from.regions }
 {
@@ -91,34 +85,25 @@ fn flood(work: &mut [u32], g: Grid, first: usize, code: u32, from: Tally) -> Tal
 
 // Whether no neighbour after s has the word `code`.
 fn alone(work: &[u32], g: Grid, s: usize, code: u32) -> bool
-    requires { Sized g.h g.w g.steps work.now × (s < g.h * g.w) }
-    ensures { result ≡ true → Alone (g.h * g.w) g.w g.steps work.now s code }
+    requires { Sized g.h g.w work.now × (s < g.h * g.w) }
+    ensures { result ≡ true → Alone (g.h * g.w) g.w g.near work.now s code }
 {
     let at = g.h * g.w + s;
-    let next = at + 1;
-    if work[next] == code {
-        return false;
-    }
     let below = at + g.w;
-    if work[below] == code {
+    if work[at + 1] == code || work[below] == code {
         return false;
     }
-    if g.steps == 4 {
-        return true;
+    match g.near {
+        Neighbourhood::Four => true,
+        Neighbourhood::Eight => work[below - 1] != code && work[below + 1] != code,
     }
-    let left = below - 1;
-    if work[left] == code {
-        return false;
-    }
-    let right = below + 1;
-    work[right] != code
 }
 
 // The whole region that begins at s, which alone waits: nothing joins it if no neighbour after s has its code.
 fn fill(work: &mut [u32], g: Grid, s: usize, first: usize, code: u32, from: Tally) -> Tally
-    requires begun { Begun g.h g.w g.steps (seen (g.h * g.w) work.old) s first from × Coded (g.h * g.w) work.old × Tinted (g.h * g.w) (seen (g.h * g.w) work.old) first from.taken (code - 264196) }
+    requires begun { Begun g.h g.w g.near (seen (g.h * g.w) work.old) s first from × Coded (g.h * g.w) work.old × Tinted (g.h * g.w) (seen (g.h * g.w) work.old) first from.taken (code - 264196) }
     requires lt_code { 264196 < code }
-    ensures filled { Filled g.h g.w g.steps (seen (g.h * g.w) work.new) (result.regions - 1) result Shut × Coded (g.h * g.w) work.new }
+    ensures filled { Filled g.h g.w g.near (seen (g.h * g.w) work.new) (result.regions - 1) result Shut × Coded (g.h * g.w) work.new }
     ensures since { Since (g.h * g.w) (seen (g.h * g.w) work.old) (seen (g.h * g.w) work.new) }
     ensures regions_value { result.regions ≡ from.regions }
 {
@@ -130,11 +115,11 @@ fn fill(work: &mut [u32], g: Grid, s: usize, first: usize, code: u32, from: Tall
 
 // The place s: if it begins a region, that whole region is labelled and its end stored.
 fn begin(work: &mut [u32], g: Grid, s: usize, t: Tally) -> Tally
-    requires filled { Filled g.h g.w g.steps (seen (g.h * g.w) work.old) t.regions t Shut × Coded (g.h * g.w) work.old }
-    requires labelled_to { LabelledTo g.h g.w g.steps (seen (g.h * g.w) work.old) t s }
+    requires filled { Filled g.h g.w g.near (seen (g.h * g.w) work.old) t.regions t Shut × Coded (g.h * g.w) work.old }
+    requires labelled_to { LabelledTo g.h g.w g.near (seen (g.h * g.w) work.old) t s }
     requires s_bound { s < g.h * g.w }
-    ensures filled_2 { Filled g.h g.w g.steps (seen (g.h * g.w) work.new) result.regions result Shut × Coded (g.h * g.w) work.new }
-    ensures labelled_to_2 { LabelledTo g.h g.w g.steps (seen (g.h * g.w) work.new) result (s + 1) }
+    ensures filled_2 { Filled g.h g.w g.near (seen (g.h * g.w) work.new) result.regions result Shut × Coded (g.h * g.w) work.new }
+    ensures labelled_to_2 { LabelledTo g.h g.w g.near (seen (g.h * g.w) work.new) result (s + 1) }
     ensures since { Since (g.h * g.w) (seen (g.h * g.w) work.old) (seen (g.h * g.w) work.new) }
 {
     let n = g.h * g.w;
@@ -159,6 +144,7 @@ fn begin(work: &mut [u32], g: Grid, s: usize, t: Tally) -> Tally
 }
 
 // The word of plane 1 of a place without a label, by its paint.
+#[tactic(auto, unfolding(crate::specs::Filling::word_of))]
 fn word(paint: u32) -> u32
     requires { paint ≤ 2147483648 }
     ensures { result ≡ word_of paint }
@@ -177,15 +163,14 @@ fn clear(work: &mut [u32], n: usize)
     }
 }
 
-// The regions of the sheet in plane 0, joined by the first 4 or all 8 steps: labels, order and ends in the planes 1 to 3.
-pub fn label_planes(work: &mut [u32], h: usize, w: usize, steps: usize) -> Tally
-    requires sized { Sized h w steps work.old }
-    requires by_index { (p : ℕ) → p < h * w → plane (h * w) 0 work.old p ≤ 2147483648 }
-    ensures labelled { Labelled (neighbours steps w) (cells_of (h * w) work.old) (h * w) work.new result.regions result.taken }
-    ensures planes_kept { PlanesKept (h * w) work.old work.new }
+// The regions of the sheet in plane 0: labels, order and ends in the planes 1 to 3.
+pub fn label_planes(work: &mut [u32], g: Grid) -> Tally
+    requires sized { Sized g.h g.w work.old }
+    requires by_index { (p : ℕ) → p < g.h * g.w → plane (g.h * g.w) 0 work.old p ≤ 2147483648 }
+    ensures labelled { Labelled (neighbours g.near g.w) (cells_of (g.h * g.w) work.old) (g.h * g.w) work.new result.regions result.taken }
+    ensures planes_kept { PlanesKept (g.h * g.w) work.old work.new }
 {
-    let g = Grid { h, w, steps };
-    let n = h * w;
+    let n = g.h * g.w;
     clear(work, n);
     let mut t = Tally {
         regions: 0,
@@ -197,25 +182,15 @@ pub fn label_planes(work: &mut [u32], h: usize, w: usize, steps: usize) -> Tally
     t
 }
 
-// The labels go to the front of a lent list.
-fn copy(work: &[u32], labels: &mut [u32], n: usize)
-    requires { (2 * n ≤ length work.now) × (n ≤ length labels.old) × (n ≤ 264196) }
-    ensures { labels.new ≡ filled n (plane n 1 work.now) labels.old }
-{
-    for p in 0..n {
-        labels[p] = work[n + p];
-    }
-}
-
 // The labels of the sheet in plane 0, handed out, and the number of its regions.
-pub fn label_into(work: &mut [u32], h: usize, w: usize, steps: usize, labels: &mut [u32]) -> u32
-    requires sized { Sized h w steps work.old × (h * w ≤ length labels.old) }
-    requires by_index { (p : ℕ) → p < h * w → plane (h * w) 0 work.old p ≤ 2147483648 }
-    ensures value { result ≡ regions (h * w) (neighbours steps w) (cells_of (h * w) work.old) }
-    ensures labels_after { labels.new ≡ filled (h * w) (label_at (h * w) (neighbours steps w) (cells_of (h * w) work.old)) labels.old }
+pub fn label_into(work: &mut [u32], g: Grid, labels: &mut [u32]) -> u32
+    requires sized { Sized g.h g.w work.old × (g.h * g.w ≤ length labels.old) }
+    requires by_index { (p : ℕ) → p < g.h * g.w → plane (g.h * g.w) 0 work.old p ≤ 2147483648 }
+    ensures value { result ≡ regions (g.h * g.w) (neighbours g.near g.w) (cells_of (g.h * g.w) work.old) }
+    ensures labels_after { labels.new ≡ filled (g.h * g.w) (label_at (g.h * g.w) (neighbours g.near g.w) (cells_of (g.h * g.w) work.old)) labels.old }
 {
-    let n = h * w;
-    let t = label_planes(work, h, w, steps);
-    copy(work, labels, n);
+    let n = g.h * g.w;
+    let t = label_planes(work, g);
+    labels[..n].copy_from_slice(&work[n..2 * n]);
     t.regions
 }

@@ -7,10 +7,10 @@ ghost use Rattle.std.specs.Prelude.{◌≡◌, length};
 ghost use Rattle.rules.specs.Masks.{regions_answer, regions_labels};
 
 use crate::label::label_into;
-use base::Filling;
+use base::Refusal;
 use grid::tile::load;
+use grid::{Grid, Neighbourhood};
 use refusals::grid_refusal;
-use rules::Labelling;
 
 // The regions numbered so far, and how many places of the order are taken.
 #[derive(Clone, Copy)]
@@ -26,14 +26,12 @@ pub fn label_regions(
     w: usize,
     labels: &mut [u32],
     work: &mut [u32],
-) -> Labelling
+) -> Result<u32, Refusal>
     ensures value { result ≡ regions_answer cells.now h w labels.old (length work.old) }
     ensures labels_after { labels.new ≡ regions_labels cells.now h w labels.old (length work.old) }
 {
-    if let Filling::Refused(row) = grid_refusal(h, w, cells.len(), labels.len(), work.len()) {
-        return Labelling::Refused(row);
-    }
+    grid_refusal(h, w, cells.len(), labels.len(), work.len())?;
     load(cells, work, 0, w, h, w);
-    let count = label_into(work, h, w, 8, labels);
-    Labelling::Regions(count)
+    let near = Neighbourhood::Eight;
+    Ok(label_into(work, Grid { h, w, near }, labels))
 }

@@ -2,12 +2,14 @@
 use Prim.Native.Nat.{ℕ, ◌≤◌, ◌<◌}
 use mathlib.Core.Path.{◌≡◌, refl, sym, ap, ◌∙◌}
 use mathlib.Core.Bool.{Bool, true, false, cond}
-use mathlib.Core.List.{List}
+use mathlib.Core.List.{List, ◌++◌}
 use native.Mathlib.Omega.{arith}
 use lib.IntN.{ℤ, pos, negsuc}
-use lib.ListN.{length, get_or, take, length-map, get_or-map}
+use lib.ListN.{length, get_or, take, drop, length-map, get_or-map}
 use lib.Seq.{get_or-take, length-take-le}
+use Rattle.base.specs.Places.{table}
 use Rattle.base.specs.Outputs.{filled}
+use Rattle.base.proofs.Counting.{table_same}
 use Rattle.rules.specs.Regions.{at}
 use Rattle.rules.specs.Masks.{is_set, mask_cells}
 use Rattle.grid.specs.Planes.{plane, paint_of}
@@ -40,6 +42,13 @@ mask_painted mask work n h = record {
       filled-plane n (λ q. bit_of (get_or mask q 0)) work p l ∙ paint_bit (get_or mask p 0)
       ∙ ap (λ (b : ℕ). paint_of (cell_of b)) (sym (get_or-take n mask p 0 l)) ∙ ap paint_of (sym (mask_at (take n mask) p));
 }
+
+-- the front of the work area painted by itself
+pub painted_front : (mask work plane : List ℕ) (n m : ℕ) → plane ≡ table m (λ p. bit_of (get_or (take n mask) p 0)) → m ≡ n → plane ++ drop n work ≡ filled n (λ p. bit_of (get_or mask p 0)) work
+unfolding filled
+painted_front mask work plane n m e is =
+    ap (λ (x : List ℕ). x ++ drop n work) (e ∙ ap (λ (k : ℕ). table k (λ p. bit_of (get_or (take n mask) p 0))) is
+    ∙ table_same n (λ p. bit_of (get_or (take n mask) p 0)) (λ p. bit_of (get_or mask p 0)) 0 (λ p l. ap bit_of (get_or-take n mask p 0 l)))
 
 -- the paints of a mask are small
 pub bits_small : (mask work new : List ℕ) (n : ℕ) → new ≡ filled n (λ p. bit_of (get_or mask p 0)) work → (p : ℕ) → p < n → plane n 0 new p ≤ 2147483648

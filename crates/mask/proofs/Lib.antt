@@ -1,4 +1,3 @@
-pub mod Turns
 pub mod Windows
 pub mod Lines
 pub mod Square

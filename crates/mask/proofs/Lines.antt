@@ -1,21 +1,24 @@
 -- Stretches of numbers written one after another, counts along a row, and counts down the columns. Assumes nothing.
 use Prim.Native.Nat.{ℕ, ◌+◌, ◌-◌, ◌*◌, ◌≤◌, ◌<◌, min, zero-le}
-use mathlib.Core.Path.{◌≡◌, refl, sym, ap, ◌∙◌}
+use mathlib.Core.Path.{◌≡◌, refl, sym, ap, ap₂, ◌∙◌}
 use mathlib.Core.Bool.{Bool, ◌&&◌, cond}
-use mathlib.Core.List.{List}
-use native.Mathlib.Nat.{not-suc-le-zero, le_of_lt, suc-mul, zero-mul, mul-le-mul_right, le-mul_of_pos_right, min-eq_left, min-eq_right}
+use mathlib.Core.List.{List, ◌++◌}
+use native.Mathlib.Nat.{le_of_lt, suc-mul, zero-mul, mul-le-mul_right, min-eq_left, min-eq_right}
 use native.Mathlib.Numerals.{add-one}
 use native.Mathlib.Decide.{dec_lt, dec_le}
 use native.Mathlib.Omega.{arith}
+use borrow.Rule.Slice.PartMut.{put_mid}
+use Rattle.std.proofs.Common.{append_assoc, below_more}
+use Rattle.std.proofs.lemmas.List.{take_at, drop_at, drop-drop}
 use lib.Dec.{ltb}
-use lib.ListN.{length, get_or, set}
-use lib.Seq.{get_or-set_same, get_or-set_other}
-use Rattle.base.specs.Places.{any, count}
-use Rattle.base.proofs.Counting.{case, count_le}
+use lib.ListN.{length, get_or, set, take, drop, replicate, length-append, length-drop, length-replicate, get_or-append, get_or-replicate}
+use lib.Seq.{ext_get_or, get_or-set_same, get_or-set_other, get_or-append_right, get_or-take, get_or-drop, length-take-le}
+use Rattle.base.specs.Outputs.{filled}
+use Rattle.base.specs.Places.{table, any, count}
+use Rattle.base.proofs.Counting.{case, any_same, count_le, table_at, table-length, table_same}
 use Rattle.rules.specs.Grid.{close}
 use Rattle.rules.specs.Masks.{is_set}
-use Rattle.mask.specs.Lines.{bit_of, less, set_from, padded, next_count, in_row, Written, Counted}
-use Rattle.grid.proofs.Places.{row_in}
+use Rattle.mask.specs.Lines.{bit_of, less, set_in, padded, next_count, in_row, Counted}
 use Rattle.grid.proofs.Tiles.{next_row}
 use Rattle.mask.proofs.Windows.{window_law}
 
@@ -26,47 +29,55 @@ pub bit_small : (v : ℕ) → bit_of v ≤ 1
 unfolding bit_of
 bit_small v = one_small (is_set v)
 
-pub less-small : (a b : ℕ) → less a b ≤ 1
-unfolding less
-less-small a b = one_small (ltb a b)
+-- ---- lists by their numbers
 
--- ---- stretches
+-- a list that holds f 0, f 1, ..
+pub table_is : {A : Type 0} (n : ℕ) (f : ℕ → A) (d : A) (xs : List A) → length xs ≡ n → ((p : ℕ) → p < n → get_or xs p d ≡ f p) → xs ≡ table n f
+table_is n f d xs e h =
+    ext_get_or d xs (table n f) (e ∙ sym (table-length n f))
+    (λ p l. let k : p < n = omega arith in h p k ∙ sym (table_at n f d p k))
 
-pub written_none : (start : ℕ) (f : ℕ → ℕ) (a : List ℕ) → Written start 0 f a a
-written_none start f a = record { new = λ i l. absurd (not-suc-le-zero l); before = λ p l. refl; past = λ p l. refl }
+-- one place more of what a loop writes
+pub set_more : (f : ℕ → ℕ) (i v : ℕ) (xs : List ℕ) → ((k : ℕ) → k < i → get_or xs k 0 ≡ f k) → i < length xs → v ≡ f i →
+    (k : ℕ) → k < i + 1 → get_or (set xs i v) k 0 ≡ f k
+set_more f i v xs h l e =
+    below_more _ _ (λ k m. get_or-set_other xs i k v 0 (λ z. absurd (omega arith)) ∙ h k m) (get_or-set_same xs i v 0 l ∙ e)
 
-pub written-more : {start d v : ℕ} {f : ℕ → ℕ} {a b : List ℕ} → Written start d f a b → start + d < length b → v ≡ f d →
-    Written start (d + 1) f a (set b (start + d) v)
-written-more {start} {d} {v} {f} {a} {b} t l e =
-    record {
-      new = λ i k. at i k (dec_lt i d);
-      before = λ p k. other p (λ z. absurd (omega arith)) ∙ t.before p k;
-      past = λ p k. other p (λ z. absurd (omega arith)) ∙ t.past p (omega arith);
-    }
+-- two lists one after the other
+table_join : {A : Type 0} (m n : ℕ) (f : ℕ → A) (d : A) {xs ys : List A} → xs ≡ table m f → ys ≡ table n (λ i. f (m + i)) → xs ++ ys ≡ table (m + n) f
+table_join {A} m n f d {xs} {ys} a b =
+    table_is (m + n) f d (xs ++ ys) (length-append xs ys ∙ omega (arith, size, ap length b, table-length n (λ i. f (m + i)))) (λ p l. at p l (dec_lt p m))
   where
-    other : (p : ℕ) → (p ≡ start + d → ⊥) → get_or (set b (start + d) v) p 0 ≡ get_or b p 0
-    other p away = get_or-set_other b (start + d) p v 0 away
+    size : length xs ≡ m
+    size = ap length a ∙ table-length m f
 
-    at : (i : ℕ) → i < d + 1 → Dec (i < d) → get_or (set b (start + d) v) (start + i) 0 ≡ f i
-    at i k (yes y) = other (start + i) (λ z. absurd (omega arith)) ∙ t.new i y
-    at i k (no z) = let q : i ≡ d = omega arith in rw q (get_or-set_same b (start + d) v 0 l ∙ e)
+    at : (p : ℕ) → p < m + n → Dec (p < m) → get_or (xs ++ ys) p d ≡ f p
+    at p l (yes y) = get_or-append xs ys d p (omega (arith, size)) ∙ ap (λ (x : List A). get_or x p d) a ∙ table_at m f d p y
+    at p l (no z) =
+        let q : m + (p - m) ≡ p = omega arith in
+        get_or-append_right xs ys p d (omega (arith, size)) ∙ ap (λ (i : ℕ). get_or ys (p - i) d) size ∙ ap (λ (x : List A). get_or x (p - m) d) b
+        ∙ table_at n (λ i. f (m + i)) d (p - m) (omega arith) ∙ ap f q
 
--- two stretches side by side are one
-written_join : {start d e : ℕ} {f g : ℕ → ℕ} {a b c : List ℕ} (h : ℕ → ℕ) → Written start d f a b → Written (start + d) e g b c →
-    ((i : ℕ) → i < d → f i ≡ h i) → ((i : ℕ) → i < e → g i ≡ h (d + i)) → Written start (d + e) h a c
-written_join {start} {d} {e} {f} {g} {a} {b} {c} h s t low high =
-    record {
-      new = λ i k. at i k (dec_lt i d);
-      before = λ p k. t.before p (omega arith) ∙ s.before p k;
-      past = λ p k. t.past p (omega arith) ∙ s.past p (omega arith);
-    }
-  where
-    at : (i : ℕ) → i < d + e → Dec (i < d) → get_or c (start + i) 0 ≡ h i
-    at i k (yes y) = t.before (start + i) (omega arith) ∙ s.new i y ∙ low i y
-    at i k (no z) =
-        let q : start + i ≡ start + d + (i - d) = omega arith in
-        let r : d + (i - d) ≡ i = omega arith in
-        ap (λ (p : ℕ). get_or c p 0) q ∙ t.new (i - d) (omega arith) ∙ high (i - d) (omega arith) ∙ ap h r
+-- one number over and over
+table_alike : (n v : ℕ) (f : ℕ → ℕ) → ((i : ℕ) → i < n → f i ≡ v) → replicate n v ≡ table n f
+table_alike n v f h = table_is n f 0 (replicate n v) (length-replicate n v) (λ i l. get_or-replicate n i v 0 l ∙ sym (h i l))
+
+-- a part of a list: what stands in it, and how long it is
+pub part_at : (xs : List ℕ) (a k j : ℕ) → j < k → get_or (take k (drop a xs)) j 0 ≡ get_or xs (a + j) 0
+part_at xs a k j l = get_or-take k (drop a xs) j 0 l ∙ get_or-drop a xs j 0
+
+pub part_size : (xs : List ℕ) (a k : ℕ) → a + k ≤ length xs → length (take k (drop a xs)) ≡ k
+part_size xs a k l = length-take-le k (drop a xs) (omega (arith, length-drop a xs))
+
+-- one row more of a list that is filled from the front
+pub row_filled : (n w k : ℕ) (f : ℕ → ℕ) (a b row : List ℕ) → b ≡ filled n f a → row ≡ table w (λ i. f (n + i)) → k ≡ w → put_mid n k b row ≡ filled (n + w) f a
+unfolding filled
+row_filled n w k f a b row e r is =
+    let t : take n b ≡ table n f = ap (take n) e ∙ take_at (table n f) (drop n a) n (table-length n f) in
+    let q : drop k (drop n b) ≡ drop (n + w) a = ap (λ (x : List ℕ). drop k (drop n x)) e ∙ ap (drop k) (drop_at (table n f) (drop n a) n (table-length n f)) ∙ drop-drop k n a ∙ ap (λ (m : ℕ). drop (n + m) a) is in
+    let j : table n f ++ row ≡ table (n + w) f = table_join n w f 0 refl r in
+    let s : table n f ++ (row ++ drop (n + w) a) ≡ (table n f ++ row) ++ drop (n + w) a = simp append_assoc in
+    ap₂ (λ (x y : List ℕ). x ++ (row ++ y)) t q ∙ s ∙ ap (λ (x : List ℕ). x ++ drop (n + w) a) j
 
 -- ---- counts along a row
 
@@ -75,22 +86,21 @@ unfolding count
 tally_zero t = refl
 
 -- the count goes on by one place's bit
-pub tally_sum : (mask : List ℕ) (from d : ℕ) {s v : ℕ} → s ≡ count d (set_from mask from) → v ≡ bit_of (get_or mask (from + d) 0) →
-    s + v ≡ count (d + 1) (set_from mask from)
-unfolding count set_from bit_of
-tally_sum mask from d e f = rw (add-one d) (omega arith)
+pub tally_sum : (row : List ℕ) (d : ℕ) {s v : ℕ} → s ≡ count d (set_in row) → v ≡ bit_of (get_or row d 0) → s + v ≡ count (d + 1) (set_in row)
+unfolding count set_in bit_of
+tally_sum row d e f = rw (add-one d) (omega arith)
 
 -- nothing, the counts of a row, and the last of them again: the row's counts with a margin
-pub padded-is : (t : ℕ → Bool) {line r w sum : ℕ} {a b c d : List ℕ} → Written line r (λ i. 0) a b →
-    Written (line + r) w (λ i. count i t) b c → sum ≡ count w t → Written (line + r + w) (r + 1) (λ i. sum) c d →
-    Written line (r + (w + (r + 1))) (padded r w t) a d
+pub padded-is : (t : ℕ → Bool) (r w sum : ℕ) (a b c : List ℕ) → a ≡ replicate r 0 → b ≡ table w (λ i. count i t) → sum ≡ count w t → c ≡ replicate (r + 1) sum →
+    a ++ (b ++ c) ≡ table (r + (w + (r + 1))) (padded r w t)
 unfolding padded count
-padded-is t {line} {r} {w} front row all end =
-    written_join (padded r w t) front (written_join (λ i. padded r w t (r + i)) row end (λ i l. upto (within i l)) (λ i l. all ∙ upto (past i)))
-    (λ i l. upto (before i l)) (λ i l. refl)
+padded-is t r w sum a b c front row all end =
+    table_join r (w + (r + 1)) (padded r w t) 0 (front ∙ table_alike r 0 (padded r w t) (λ i l. upto (before i l)))
+    (table_join w (r + 1) (λ i. padded r w t (r + i)) 0 (row ∙ table_same w (λ i. count i t) (λ i. padded r w t (r + i)) 0 (λ i l. sym (upto (within i l))))
+    (end ∙ table_alike (r + 1) sum (λ i. padded r w t (r + (w + i))) (λ i l. upto (past i) ∙ sym all)))
   where
-    upto : {m n : ℕ} → n ≡ m → count m t ≡ count n t
-    upto e = ap (λ (m : ℕ). count m t) (sym e)
+    upto : {m n : ℕ} → m ≡ n → count m t ≡ count n t
+    upto e = ap (λ (m : ℕ). count m t) e
 
     before : (i : ℕ) → i < r → min (i - r) w ≡ 0
     before i l = let e : i - r ≡ 0 = omega arith in rw e (min-eq_left zero-le)
@@ -123,62 +133,72 @@ near-row t {r} k w e j l = let q = ends k e j l in rw (q.0, q.1) (ap (λ (b : Bo
 
 -- ---- counts down the columns
 
--- while the next row is written, the row above it and the counts along the row stay
-pub next_kept : {a b : List ℕ} {j v : ℕ} {f : ℕ → ℕ} (from w lo hi : ℕ) → Written (from + w) j f a b → j < w → from + w + w ≤ lo → lo ≤ hi →
-    v ≡ less (get_or b (lo + j) 0) (get_or b (hi + j) 0) → get_or b (from + j) 0 + v ≡ next_count a from lo hi j
-unfolding next_count
-next_kept {j = j} from w lo hi t l u m e =
-    rw (e, t.before (from + j) (omega arith), t.past (lo + j) (omega arith), t.past (hi + j) (omega arith))
-
 -- a row ends at or before the end of them all
 pub row_below : (y h w : ℕ) → y < h → y * w + w ≤ h * w
 row_below y h w l = omega (arith, mul-le-mul_right w l, suc-mul y w)
 
-pub counted_none : {mask a b : List ℕ} {w k : ℕ} → Written 0 w (λ i. 0) a b → Counted mask w k 0 b
+pub counted_none : (mask a b : List ℕ) (w k : ℕ) → a ≡ replicate w 0 → Counted mask w k 0 (a ++ b)
 unfolding count
-counted_none {b} {w} t =
+counted_none mask a b w k e =
     record {
       rows = λ y x l m.
-          let e : y ≡ 0 = omega arith in
-          rw e (ap (λ (p : ℕ). get_or b p 0) (ap (λ (p : ℕ). p + x) (zero-mul w)) ∙ t.new x m);
+          let q : y ≡ 0 = omega arith in
+          let z : 0 * w + x ≡ x = omega (arith, zero-mul w) in
+          rw q (ap (λ (p : ℕ). get_or (a ++ b) p 0) z ∙ get_or-append a b 0 x (omega (arith, ap length e, length-replicate {A = ℕ} w 0)) ∙ ap (λ (v : List ℕ). get_or v x 0) e ∙ get_or-replicate w x 0 0 m);
     }
 
--- what is written behind the rows leaves them
-pub counted_kept : {mask a b : List ℕ} {w k y line d : ℕ} {f : ℕ → ℕ} → Counted mask w k y a → y * w + w ≤ line → Written line d f a b →
-    Counted mask w k y b
-counted_kept {w} {y} c h t =
-    record { rows = λ z x l m. let e = mul-le-mul_right w l in t.before (z * w + x) (omega arith) ∙ c.rows z x l m }
+-- the rows stand in front of what lies behind them
+pub counted_front : (mask a b : List ℕ) (w k y : ℕ) → Counted mask w k y a → y * w + w ≤ length a → Counted mask w k y (a ++ b)
+counted_front mask a b w k y c room =
+    record { rows = λ z x l m. let e = mul-le-mul_right w l in get_or-append a b 0 (z * w + x) (omega arith) ∙ c.rows z x l m }
 
 -- a count of rows is at most their number
 pub counted-small : {mask a : List ℕ} {w k y : ℕ} → Counted mask w k y a → (x : ℕ) → x < w → get_or a (y * w + x) 0 ≤ y
 counted-small {mask} {a} {w} {k} {y} c x l = omega (arith, c.rows y x (omega arith) l, count_le y (in_row mask w k x))
 
--- one row more, by its counts
-pub counted-more : {mask a b c : List ℕ} {w k r y line : ℕ} → r ≡ min k w → Counted mask w k y b →
-    Written line (r + (w + (r + 1))) (padded r w (set_from mask (y * w))) a b →
-    Written (y * w + w) w (next_count b (y * w) line (line + 2 * r + 1)) b c → Counted mask w k (y + 1) c
-unfolding count in_row next_count
-counted-more {mask} {a} {b} {c} {w} {k} {r} {y} {line} e rows pad t = record { rows = λ z x l m. at z x l m (dec_le z y) }
+-- the row above the next one, as it is read
+pub above_at : (rows done : List ℕ) (w y k x : ℕ) → done ≡ take (y * w + w) rows → x < k → x < w → get_or (take k (drop (y * w) done)) x 0 ≡ get_or rows (y * w + x) 0
+above_at rows done w y k x e l m =
+    part_at done (y * w) k x l ∙ ap (λ (v : List ℕ). get_or v (y * w + x) 0) e ∙ get_or-take (y * w + w) rows (y * w + x) 0 (omega arith)
+
+-- one row more, by its counts: `done` are the rows before it, and `line` the counts along the mask's row
+pub counted-more : (mask rows done next rest line lo hi : List ℕ) (w k r y len room along : ℕ) → r ≡ min k w → Counted mask w k y rows → y * w + w ≤ length rows →
+    done ≡ take (y * w + w) rows → next ≡ table len (next_count (take room (drop (y * w) done)) lo hi) → len ≡ w → w ≤ room →
+    line ≡ table (r + (w + (r + 1))) (padded r w (set_in (take along (drop (y * w) mask)))) → w ≤ along →
+    ((j : ℕ) → j < w → get_or lo j 0 ≡ get_or line j 0) → ((j : ℕ) → j < w → get_or hi j 0 ≡ get_or line (2 * r + 1 + j) 0) →
+    Counted mask w k (y + 1) (done ++ (next ++ rest))
+unfolding count in_row next_count set_in
+counted-more mask rows done next rest line lo hi w k r y len room along e c held before row size wide pad far low high =
+    record { rows = λ z x l m. at z x l m (dec_le z y) }
   where
-    next : (x : ℕ) → x < w → get_or c (y * w + w + x) 0 ≡ count (y + 1) (in_row mask w k x)
-    next x m =
-        let q : line + 2 * r + 1 + x ≡ line + (2 * r + 1 + x) = omega arith in
-        let grown : less (get_or b (line + x) 0) (get_or b (line + 2 * r + 1 + x) 0) ≡ cond (in_row mask w k x y) 1 0 =
-        rw (q, pad.new x (omega arith), pad.new (2 * r + 1 + x) (omega arith)) (near-row (set_from mask (y * w)) k w e x m) in
-        rw (add-one y) (omega (arith, t.new x m, rows.rows y x (omega arith) m))
+    front : length done ≡ y * w + w
+    front = ap length before ∙ length-take-le (y * w + w) rows held
 
-    at : (z x : ℕ) → z ≤ y + 1 → x < w → Dec (z ≤ y) → get_or c (z * w + x) 0 ≡ count z (in_row mask w k x)
-    at z x l m (yes g) = let f = mul-le-mul_right w g in t.before (z * w + x) (omega arith) ∙ rows.rows z x g m
-    at z x l m (no g) = let q : z ≡ y + 1 = omega arith in rw (q, next_row y w) (next x m)
+    t : ℕ → Bool
+    t i = set_in (take along (drop (y * w) mask)) i
 
--- the work area holds h + 1 rows and, behind them, the counts along a row with a margin of at most w on either side
-pub record Room (h w len : ℕ) : Type 0 where
-  pub rows : (h + 1) * w ≡ h * w + w
-  pub behind : (h + 1) * w + 3 * w < len
+    on_line : (i : ℕ) → i < r + (w + (r + 1)) → get_or line i 0 ≡ padded r w t i
+    on_line i l = ap (λ (v : List ℕ). get_or v i 0) pad ∙ table_at _ (padded r w t) 0 i l
 
-pub room : (h w len : ℕ) → 0 < h * w → 8 * (h * w) ≤ len → Room h w len
-room h w len some l =
-    let one = row_in h w 0 some in
-    let wide : w ≤ w * h = le-mul_of_pos_right w (omega arith) in
-    let rows = next_row h w in
-    record { rows = rows; behind = omega arith }
+    near : (x : ℕ) → x < w → less (get_or lo x 0) (get_or hi x 0) ≡ cond (in_row mask w k x y) 1 0
+    near x m =
+        rw (low x m, high x m, on_line x (omega arith), on_line (2 * r + 1 + x) (omega arith))
+        (near-row t k w e x m
+        ∙ ap (λ (b : Bool). cond b 1 0) (any_same w (λ i. t i && close k x i) (λ i. set_in mask (y * w + i) && close k x i)
+        (λ i l. ap (λ (v : ℕ). is_set v && close k x i) (part_at mask (y * w) along i (omega arith)))))
+
+    fresh : (x : ℕ) → x < w → get_or (done ++ (next ++ rest)) (y * w + w + x) 0 ≡ count (y + 1) (in_row mask w k x)
+    fresh x m =
+        let i : y * w + w + x - length done ≡ x = omega (arith, front) in
+        let n : length next ≡ w = ap length row ∙ table-length len _ ∙ size in
+        let got : get_or (done ++ (next ++ rest)) (y * w + w + x) 0 ≡ get_or (take room (drop (y * w) done)) x 0 + less (get_or lo x 0) (get_or hi x 0) =
+        get_or-append_right done (next ++ rest) (y * w + w + x) 0 (omega (arith, front)) ∙ ap (λ (p : ℕ). get_or (next ++ rest) p 0) i
+        ∙ get_or-append next rest 0 x (omega arith) ∙ ap (λ (v : List ℕ). get_or v x 0) row ∙ table_at len _ 0 x (omega arith) in
+        rw (add-one y) (omega (arith, got, above_at rows done w y room x before (omega arith) m, near x m, c.rows y x (omega arith) m))
+
+    at : (z x : ℕ) → z ≤ y + 1 → x < w → Dec (z ≤ y) → get_or (done ++ (next ++ rest)) (z * w + x) 0 ≡ count z (in_row mask w k x)
+    at z x l m (yes g) =
+        let f = mul-le-mul_right w g in
+        get_or-append done (next ++ rest) 0 (z * w + x) (omega (arith, front)) ∙ ap (λ (v : List ℕ). get_or v (z * w + x) 0) before
+        ∙ get_or-take (y * w + w) rows (z * w + x) 0 (omega arith) ∙ c.rows z x g m
+    at z x l m (no g) = let q : z ≡ y + 1 = omega arith in rw (q, next_row y w) (fresh x m)

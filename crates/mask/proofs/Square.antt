@@ -1,23 +1,23 @@
 -- Along the rows, then down the columns, is within k rows and k columns. Assumes nothing.
 use Prim.Native.Nat.{ℕ, ◌+◌, ◌-◌, ◌*◌, ◌/◌, ◌%◌, ◌≤◌, ◌<◌, min}
-use mathlib.Core.Path.{◌≡◌, ap, ◌∙◌}
+use mathlib.Core.Path.{◌≡◌, ap, ap₂, ◌∙◌}
 use mathlib.Core.Bool.{Bool, true, ◌&&◌, cond}
 use mathlib.Core.List.{List}
 use native.Mathlib.Nat.{div-add-mod', min-le_right}
-use native.Mathlib.Decide.{dec_lt}
 use native.Mathlib.Omega.{arith}
-use lib.ListN.{length, get_or}
-use Rattle.base.specs.Places.{any}
+use lib.ListN.{length, get_or, take, drop}
+use borrow.Rule.Slice.PartMut.{put_mid}
+use Rattle.base.specs.Places.{table, any}
 use Rattle.base.specs.Outputs.{filled}
-use Rattle.base.proofs.Counting.{both, left, right, any_yes, yes_any, same_test}
+use Rattle.base.proofs.Counting.{both, left, right, any_yes, yes_any, same_test, table_same}
 use Rattle.base.proofs.Fills.{filled_at, filled_past, filled-length, filled_is}
 use Rattle.rules.specs.Grid.{close}
 use Rattle.rules.specs.Masks.{is_set, dilated_at}
-use Rattle.mask.specs.Lines.{less, set_from, in_row, grows, Written, Counted}
+use Rattle.mask.specs.Lines.{less, set_in, in_row, grows, Counted}
 use Rattle.grid.proofs.Places.{row_in, col_in, row_of, col_of, place_in_lem}
 use Rattle.grid.proofs.Tiles.{next_row}
 use Rattle.mask.proofs.Windows.{window_law}
-use Rattle.mask.proofs.Lines.{row_below}
+use Rattle.mask.proofs.Lines.{part_at, row_filled}
 
 square : (h w k : ℕ) (t : ℕ → Bool) (p : ℕ) →
     any h (λ y. any w (λ i. t (y * w + i) && close k (p % w) i) && close k (p / w) y)
@@ -56,7 +56,7 @@ square h w k t p = same_test there back
 -- the counts down a column grow in a window of rows exactly if a place of the square about p is set
 dilated : {mask work : List ℕ} {h w k : ℕ} → Counted mask w k h work → (p : ℕ) → p < h * w →
     grows work h w k (p / w) (p % w) ≡ dilated_at mask h w k p
-unfolding grows less in_row set_from dilated_at
+unfolding grows less in_row set_in dilated_at
 dilated {mask} {work} {h} {w} {k} c p l =
     let x = col_in h w p l in
     let y = row_in h w p l in
@@ -77,25 +77,19 @@ dilation_is {mask} {work} {h = h} {w} {k} out room c e =
 
 -- ---- row after row of the answer
 
--- a list that is filled up to row y, and that row written by the counts at the ends of its window: filled up to the next one
-pub fill_row : {b c : List ℕ} {lo hi : ℕ} (work a : List ℕ) (h w k y : ℕ) → y < h → h * w ≤ length a → length c ≡ length a →
-    b ≡ filled (y * w) (λ p. grows work h w k (p / w) (p % w)) a → lo ≡ y - k → hi ≡ min (y + k + 1) h →
-    Written (y * w) w (λ j. less (get_or work (lo * w + j) 0) (get_or work (hi * w + j) 0)) b c →
-    c ≡ filled ((y + 1) * w) (λ p. grows work h w k (p / w) (p % w)) a
+-- a list that is filled up to row y, and that row put into it by the counts at the ends of its window: filled up to the next one
+pub fill_row : (work a b row : List ℕ) (h w k y size lo hi below past len : ℕ) → b ≡ filled (y * w) (λ p. grows work h w k (p / w) (p % w)) a → lo ≡ y - k → hi ≡ min (y + k + 1) h →
+    row ≡ table len (λ j. less (get_or (take below (drop (lo * w) work)) j 0) (get_or (take past (drop (hi * w) work)) j 0)) → len ≡ w → w ≤ below → w ≤ past → size ≡ w →
+    put_mid (y * w) size b row ≡ filled ((y + 1) * w) (λ p. grows work h w k (p / w) (p % w)) a
 unfolding grows
-fill_row {b} {c} {lo} {hi} work a h w k y l room same e low high t =
-    let next = next_row y w in
-    let within = row_below y h w l in
-    filled_is ((y + 1) * w) f a c 0 (omega arith) same
-    (λ p m. at p (omega arith) (dec_lt p (y * w)))
-    (λ p m. t.past p (omega arith) ∙ ap (λ (x : List ℕ). get_or x p 0) e ∙ filled_past (y * w) f a 0 p (omega arith))
+fill_row work a b row h w k y size lo hi below past len e low high is all l u s =
+    rw (next_row y w) (row_filled (y * w) w size f a b row e (is ∙ ap (λ (n : ℕ). table n g) all ∙ table_same w g (λ j. f (y * w + j)) 0 same) s)
   where
     f : ℕ → ℕ
     f p = grows work h w k (p / w) (p % w)
 
-    row : (i : ℕ) → i < w → get_or c (y * w + i) 0 ≡ f (y * w + i)
-    row i u = rw (row_of w y i u, col_of w y i u, ← low, ← high) (t.new i u)
+    g : ℕ → ℕ
+    g j = less (get_or (take below (drop (lo * w) work)) j 0) (get_or (take past (drop (hi * w) work)) j 0)
 
-    at : (p : ℕ) → p < y * w + w → Dec (p < y * w) → get_or c p 0 ≡ f p
-    at p m (yes g) = t.before p g ∙ ap (λ (x : List ℕ). get_or x p 0) e ∙ filled_at (y * w) f a 0 p g
-    at p m (no g) = let q : y * w + (p - y * w) ≡ p = omega arith in rw q at (row (p - y * w) (omega arith))
+    same : (j : ℕ) → j < w → g j ≡ f (y * w + j)
+    same j m = rw (row_of w y j m, col_of w y j m, ← low, ← high) (ap₂ less (part_at work (lo * w) below j (omega arith)) (part_at work (hi * w) past j (omega arith)))

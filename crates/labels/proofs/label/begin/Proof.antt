@@ -115,7 +115,7 @@ fill-requires : tie.Need-fill-full-requires
 fill-requires c κs =
     let a = c.args in
     let m : ℕ = n c.before.before.before.before.before in
-    let k = subst (λ (l : List ℕ). Begun a.g.h a.g.w a.g.steps l a.s a.t.taken (record { regions = a.t.regions + 1; taken = a.t.taken + 1 }) × Tinted m l a.t.taken (a.t.taken + 1) (code c.before - 264196)) (sym (marked-seen c.before)) (
+    let k = subst (λ (l : List ℕ). Begun a.g.h a.g.w a.g.near l a.s a.t.taken (record { regions = a.t.regions + 1; taken = a.t.taken + 1 }) × Tinted m l a.t.taken (a.t.taken + 1) (code c.before - 264196)) (sym (marked-seen c.before)) (
       begin_alone c.requires.0.0 c.requires.1.0 c.requires.1.1 (paint c.before) (free c.before),
       subst (λ (x : ℕ). Tinted m (marked c.before) a.t.taken (a.t.taken + 1) x) (fresh c.before).paint (begin_tint c.requires.0.0 c.requires.1.0 c.requires.1.1 (paint c.before) (free c.before)),
     ) in (
@@ -179,7 +179,7 @@ returns-2 c =
     let a = c.args in
     let r = c.fill-full in
     let g = r.ensures in
-    let k = subst (λ (l : List ℕ). Filled a.g.h a.g.w a.g.steps l r.result.regions r.result Shut × LabelledTo a.g.h a.g.w a.g.steps l r.result (a.s + 1) × Since (n c.before.before.before.before.before.before.before.before) (old c.before.before.before.before) l) (sym (ended-seen c)) (
+    let k = subst (λ (l : List ℕ). Filled a.g.h a.g.w a.g.near l r.result.regions r.result Shut × LabelledTo a.g.h a.g.w a.g.near l r.result (a.s + 1) × Since (n c.before.before.before.before.before.before.before.before) (old c.before.before.before.before) l) (sym (ended-seen c)) (
       closed_filled c.requires.0.0 c.requires.1.0 c.requires.1.1 (paint c.before.before.before.before) (free c.before.before.before.before) g.0.0 g.1.1 (since c),
       closed_passed c.requires.0.0 c.requires.1.0 c.requires.1.1 (paint c.before.before.before.before) (free c.before.before.before.before) g.0.0 g.1.1 (since c),
       closed_since c.requires.0.0 c.requires.1.0 c.requires.1.1 (paint c.before.before.before.before) (free c.before.before.before.before) g.0.0 g.1.1 (since c),

@@ -1,0 +1,12 @@
+-- `store_row`: place by place. Assumes nothing.
+use Rattle.std.proofs.Common.{rules}
+use Rattle.mask.specs.Lines.{less}
+use Rattle.mask.proofs.Lines.{set_more, table_is}
+use Rattle.mask.proofs.dilation.store_row.Goals as goal
+
+pub loop-j-preserved : goal.loop-j-preserved
+unfolding less
+loop-j-preserved c = set_more _ _ _ _ c.loop-j.invariant (search rules) (search rules)
+
+pub returns : goal.returns
+returns c = table_is _ _ 0 _ (search rules) (search rules)
