@@ -60,7 +60,6 @@ module _ {grid : Grid} {from mid : ℕ} {a b : List ℕ} (d : Decided grid from 
       record {
         rows = o.rows;
         cols = o.cols;
-        ways = o.ways;
         room = rw r.len o.room;
         paint = λ x l. ⊎_elim (λ y. rw y.0 (o.paint x l)) (λ y. (paint_new x y.0 l y.1 y.2).1) (r.each x l);
         shown = λ x l z. ⊎_elim (λ y. rw y.0 (o.shown x l (λ e. z (label x l ∙ e)))) (λ y. (paint_new x y.0 l y.1 y.2).0) (r.each x l);

@@ -9,11 +9,15 @@ use native.Mathlib.Omega.{arith}
 use borrow.Author.Tests.{ne_eqb}
 use lib.Dec.{eqb, ltb}
 use lib.ListN.{length, set, length-set}
+use Rattle.std.specs.Prelude.{Some}
 use Rattle.base.proofs.Counting.{case, clash, both, left, right, not_true, not_false, leb_yes, yes_leb, yes_eqb, or_left, or_right, count_some}
 use Rattle.grid.specs.declared.Grid.{Grid}
 use Rattle.grid.specs.Planes.{plane}
+use Rattle.grid.specs.Steps.{steps_of}
+use Rattle.grid.proofs.Places.{hop}
 use Rattle.grid.proofs.Planes.{plane-same, plane_else, plane_other}
 use Rattle.verdicts.specs.Steps.{area_of}
+use Rattle.verdicts.proofs.Votes.{Reached, reached_more, more_reached, reached_all, all_reached}
 use Rattle.frontier.specs.Growing.{Logged, Matches, Growth, Cause, Gained}
 use Rattle.frontier.proofs.Stages.{big_some}
 use Rattle.frontier.proofs.Growth.{logged_start, logged_step, room_step}
@@ -177,6 +181,27 @@ module _ {grid : Grid} {first second : ℕ → Type 0} {a b c : List ℕ} {from 
           ))
           (v.flags q l)
 
+-- ---- the steps from a place
+
+-- one of the first s steps from p leads to q, which has its paint
+abbrev pub MatchesBy : Grid → List ℕ → ℕ → ℕ → ℕ → Type 0
+MatchesBy grid a p s q = Reached grid p s q × (plane (area_of grid) 0 a q ≡ plane (area_of grid) 0 a p)
+
+module _ (grid : Grid) (a : List ℕ) (p : ℕ) {from : ℕ} where
+  pub beside_start : Growth grid from a → Gained grid (MatchesBy grid a p 0) a a from from
+  beside_start g = gained_start grid from _ a g (λ q l z y. let n = z.0.1 in absurd (omega arith))
+
+  pub beside_on : {b c : List ℕ} {mid end : ℕ} (s paint : ℕ) → paint ≡ plane (area_of grid) 0 a p → Gained grid (MatchesBy grid a p s) a b from mid →
+      Gained grid (λ q. (hop grid.h grid.w p s ≡ Some q) × (plane (area_of grid) 0 b q ≡ paint)) b c mid end → Gained grid (MatchesBy grid a p (s + 1)) a c from end
+  beside_on s paint e u v =
+      gained_same
+      (λ q l. ⊎_elim (λ z. (more_reached grid p s (inl z.0), z.1)) (λ z. (more_reached grid p s (inr z.0), sym (gained_paint u q l) ∙ z.1 ∙ e)))
+      (λ q l z. ⊎_elim (λ y. inl (y, z.1)) (λ y. inr (y, gained_paint u q l ∙ z.1 ∙ sym e)) (reached_more grid p s z.0))
+      (gained_trans u v)
+
+  pub beside_all : {b : List ℕ} {end : ℕ} (s : ℕ) → s ≡ steps_of grid.near → Gained grid (MatchesBy grid a p s) a b from end → Gained grid (Matches grid a p) a b from end
+  beside_all s e u = gained_same (λ q l z. (reached_all grid p s (omega arith) z.0, z.1)) (λ q l z. (all_reached grid p s (omega arith) l z.0, z.1)) u
+
 -- ---- one group
 
 module _ (grid : Grid) (end : ℕ) (a : List ℕ) (g : Growth grid end a) (q at : ℕ) (lq : q < area_of grid) (eq : plane (area_of grid) 1 a q ≡ suc at) (lit : large_of (area_of grid) a q ≡ false) where
@@ -258,7 +283,6 @@ module _ (grid : Grid) (end : ℕ) (a : List ℕ) (g : Growth grid end a) (q at 
         record {
           rows = d.rows;
           cols = d.cols;
-          ways = d.ways;
           room = rw (length-set b i at ∙ s.len) d.room;
           paint = λ x l. rw (paint x l) (d.paint x l);
           shown = λ x l z. rw (paint x l) (d.shown x l (λ e. z (label x l ∙ e)));

@@ -8,5 +8,6 @@ pub mod Filing
 pub mod Progress
 pub mod Repaints
 pub mod Gains
+pub mod Around
 pub mod Decided
 pub mod Outcome

@@ -9,10 +9,14 @@ use native.Mathlib.Omega.{arith}
 use lib.Dec.{eqb}
 use lib.ListN.{length, set, length-set}
 use Rattle.rules.specs.Pass.{Rule}
+use Rattle.grid.specs.declared.Grid.{Grid}
 use Rattle.grid.specs.Planes.{plane}
 use Rattle.grid.proofs.Planes.{plane-same, plane_else, plane_other}
+use Rattle.verdicts.specs.Steps.{area_of}
+use Rattle.verdicts.specs.Groups.{Group}
 use Rattle.verdicts.specs.Judging.{large_of, Judged}
-use Rattle.frontier.specs.Judging.{RegionSet, Noted}
+use Rattle.frontier.specs.Judging.{RegionSet, Noted, Stage}
+use Rattle.frontier.proofs.Stages.{stage_room}
 use Rattle.verdicts.proofs.Keeping.{Alike}
 
 module _ (rule : Rule) (n at end : ℕ) (a b : List ℕ) (lat : at < n) (le : end ≤ n) where
@@ -127,3 +131,8 @@ module _ (rule : Rule) (n at end : ℕ) (a b : List ℕ) (lat : at < n) (le : en
         where
           two : 2 ≤ v
           two = omega (arith, some, many)
+
+-- a group that is to be repainted finds the log with room
+pub noted_room : {rule : Rule} {grid : Grid} {k at end r : ℕ} {a b : List ℕ} → Stage rule grid k end a → Group (area_of grid) a at → Judged rule (area_of grid) at a b r → (r ≡ 0 → ⊥) → end < area_of grid
+noted_room {grid = grid} {at = at} {a = a} st g u z =
+    (stage_room st g).1 (elim (ℕ_discrete (plane (area_of grid) 6 a at) 0) [ yes y ↦ y | no y ↦ absurd (z (u.done y)) ]) (u.little z)

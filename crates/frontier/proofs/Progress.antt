@@ -1,14 +1,14 @@
 -- Judging one group after the other, seen from the start of the pass. Assumes nothing.
-use Prim.Native.Nat.{ℕ, suc, ◌-◌, ◌<◌}
+use Prim.Native.Nat.{ℕ, suc, ◌-◌, ◌≤◌, ◌<◌}
 use mathlib.Core.Path.{◌≡◌, refl, sym, ap, ◌∙◌}
 use mathlib.Core.Logic.{◌⊎◌, inl, inr, ⊎_elim}
 use mathlib.Core.Bool.{Bool, true, false, not, ◌&&◌, ◌||◌}
 use mathlib.Core.List.{List}
-use mathlib.Core.Option.{Option, none, some}
 use native.Mathlib.Decide.{ℕ_discrete}
 use native.Mathlib.Omega.{arith}
 use borrow.Author.Tests.{ne_eqb}
 use lib.Dec.{eqb}
+use Rattle.std.specs.Prelude.{Option, Some}
 use Rattle.base.proofs.Counting.{case, table-length}
 use Rattle.rules.specs.Regions.{opaque, Symmetric}
 use Rattle.rules.specs.Pass.{Rule, State, marked, large, small, fates, fate}
@@ -19,12 +19,15 @@ use Rattle.rules.proofs.Groups.{Ready}
 use Rattle.grid.specs.declared.Grid.{Grid}
 use Rattle.grid.specs.Planes.{plane, cells_of, end_of}
 use Rattle.grid.proofs.Planes.{cells_kept, cells-size}
+use Rattle.verdicts.specs.declared.large.Span.{Span}
 use Rattle.verdicts.specs.Steps.{area_of}
 use Rattle.verdicts.specs.Judging.{state_of, code, large_of, Sound}
-use Rattle.frontier.specs.Judging.{Judging, frozen_of, Noted, Stage, Met, small_label, Small}
-use Rattle.verdicts.specs.Groups.{Group, GroupedSheet}
-use Rattle.verdicts.proofs.Keeping.{group-alike}
+use Rattle.frontier.specs.Judging.{Judging, frozen_of, Noted, Stage, Met, Small}
+use Rattle.verdicts.specs.Groups.{Group}
+use Rattle.verdicts.proofs.Keeping.{sheet-few, group-alike}
+use Rattle.verdicts.proofs.Spans.{SpanTurn, span_turn, group-stretch}
 use Rattle.frontier.proofs.Stages.{frozen_is, stage_noted}
+use Rattle.frontier.proofs.Turns.{LogTurn, log_turn}
 use Rattle.frontier.proofs.Filing.{filed_start, filed_trans, filed_noted}
 
 unfrozen : (b c : Bool) → (b || (c && false)) ≡ b
@@ -174,7 +177,7 @@ met_fewer f u = record {
 }
 
 -- a small group that another place names
-renamed : {n l : ℕ} {a : List ℕ} {near far : ℕ → Type 0} (z : Small n a near l) → far z.place → Small n a far l
+pub renamed : {n l : ℕ} {a : List ℕ} {near far : ℕ → Type 0} (z : Small n a near l) → far z.place → Small n a far l
 renamed z y = record { place = z.place; named = y; inside = z.inside; little = z.little; label = z.label }
 
 -- the small groups by another name of their places
@@ -369,25 +372,24 @@ module _ {rule : Rule} {grid : Grid} {k from : ℕ} {a : List ℕ} (st : Stage r
 
 -- ---- the cell that a step finds
 
--- a small group that the step names has the label that was read
-named_label : {n l : ℕ} {work : List ℕ} {o : Option ℕ} → Small n work (λ q. o ≡ some q) l → small_label n work o ≡ suc l
-unfolding small_label
-named_label z = rw (z.named, z.little) z.label
-
--- the label is that of a group
-pub label-group : {grid : Grid} {work : List ℕ} → GroupedSheet grid work → (o : Option ℕ) → ((q : ℕ) → o ≡ some q → q < area_of grid) → (at : ℕ) → small_label (area_of grid) work o ≡ suc at → Group (area_of grid) work at
-unfolding small_label
-label-group sheet none inside at e = let z : ◌≡◌ {A = ℕ} 0 (suc at) = e in absurd (omega arith)
-label-group {grid} {work} sheet (some q) inside at e =
-    case (large_of (area_of grid) work q)
-    (λ y. let z : 0 ≡ suc at = rw y at e in absurd (omega arith))
-    (λ y. sheet.groups q at (inside q refl) (rw y at e))
-
 module _ {rule : Rule} {grid : Grid} {k end : ℕ} {a : List ℕ} (st : Stage rule grid k end a) (o : Option ℕ) where
-  -- there is none: nothing is judged
-  pub met_unlabelled : small_label (area_of grid) a o ≡ 0 → Met rule grid k (Small (area_of grid) a (λ q. o ≡ some q)) a a end end
-  met_unlabelled e = met_fewer (λ l z. absurd (omega (arith, named_label z))) (met_start st)
+  -- no small one: nothing is judged
+  pub met_unfound : ((l : ℕ) → Small (area_of grid) a (λ q. o ≡ Some q) l → ⊥) → Met rule grid k (Small (area_of grid) a (λ q. o ≡ Some q)) a a end end
+  met_unfound f = met_fewer (λ l z. absurd (f l z)) (met_start st)
 
   -- its group is judged
-  pub met_labelled : {at r : ℕ} {b : List ℕ} → small_label (area_of grid) a o ≡ suc at → Group (area_of grid) a at → Noted rule (area_of grid) at end a b r → Met rule grid k (Small (area_of grid) a (λ q. o ≡ some q)) a b end r
-  met_labelled e g u = met_fewer (λ l z. inr (omega (arith, named_label z))) (met_step st (met_start st) g u)
+  pub met_found : {at r : ℕ} {b : List ℕ} → Small (area_of grid) a (λ q. o ≡ Some q) at → Noted rule (area_of grid) at end a b r → Met rule grid k (Small (area_of grid) a (λ q. o ≡ Some q)) a b end r
+  met_found s u =
+      met_fewer (λ l z. inr (let e : z.place ≡ s.place = cc in omega (arith, z.label, s.label, ap (plane (area_of grid) 1 a) e)))
+      (met_step st (met_start st) (st.sheet.groups s.place _ s.inside s.label) u)
+
+-- ---- what a turn reads
+
+module _ {rule : Rule} {grid : Grid} {k from end : ℕ} {met : ℕ → Type 0} {a b : List ℕ} (st : Stage rule grid k from a) where
+  -- a place of the group
+  pub met_turn : {at i : ℕ} {span : Span} → Group (area_of grid) a at → (span.from ≡ end_of (area_of grid) a at) × (span.to ≡ end_of (area_of grid) a (suc at)) → Met rule grid k met a b from end → end_of (area_of grid) a at ≤ i → i < span.to → SpanTurn (area_of grid) i span a b
+  met_turn group ends u low turn = span_turn (sheet-few st.sheet) st.sheet.room (group-stretch group ends) u.len (λ q l. u.same 2 q (omega arith) l) (omega (arith, ends.0)) turn
+
+  -- a group of the log
+  pub met_log : {i : ℕ} → Met rule grid k met a b from end → i < from → Group (area_of grid) a (plane (area_of grid) 7 a i) → LogTurn (area_of grid) from i a b
+  met_log u turn group = log_turn (sheet-few st.sheet) st.sheet.room (omega (arith, st.room)) turn u.len (λ l. u.log.kept _ turn) group

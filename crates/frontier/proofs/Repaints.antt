@@ -1,15 +1,17 @@
 -- Groups are enlarged or repainted, one after the other. Assumes nothing.
-use Prim.Native.Nat.{ℕ, suc, ◌+◌, ◌<◌}
+use Prim.Native.Nat.{ℕ, suc, ◌+◌, ◌-◌, ◌*◌, ◌≤◌, ◌<◌}
 use mathlib.Core.Path.{◌≡◌, refl, sym, ap, ◌∙◌}
 use mathlib.Core.Logic.{◌⊎◌, inl, inr, ⊎_elim}
 use mathlib.Core.List.{List}
 use native.Mathlib.Decide.{ℕ_discrete}
 use native.Mathlib.Omega.{arith}
-use Rattle.grid.specs.Planes.{plane}
+use lib.ListN.{length}
+use Rattle.grid.specs.Planes.{plane, end_of}
 use Rattle.verdicts.specs.Groups.{Group}
 use Rattle.frontier.specs.Judging.{RegionSet}
 use Rattle.frontier.specs.Growing.{Enlarged, Repainted}
-use Rattle.verdicts.proofs.Keeping.{Alike, group-alike, kept_alike}
+use Rattle.verdicts.proofs.Keeping.{Alike, end_alike, group-alike, kept_alike}
+use Rattle.frontier.proofs.Turns.{LogTurn, log_turn}
 
 -- ---- enlarging
 
@@ -47,6 +49,37 @@ enlarged_on n named a b c at u s = record {
 
 pub enlarged_group : {n : ℕ} {named : ℕ → Type 0} {a b : List ℕ} {at : ℕ} → Enlarged n named a b → Group n a at → Group n b at
 enlarged_group {at = at} u g = group-alike (kept_alike u.kept) at g
+
+-- a group ends where it did
+pub enlarged_end : {n : ℕ} {named : ℕ → Type 0} {a b : List ℕ} {at : ℕ} → Enlarged n named a b → Group n a at → (end_of n b at ≡ end_of n a at) × (end_of n b (suc at) ≡ end_of n a (suc at))
+enlarged_end {at = at} u g = let k = kept_alike u.kept in (end_alike k at (omega (arith, g.label)), end_alike k (suc at) (omega (arith, g.label)))
+
+-- l + 1 is the label of a group before `at` with enough places
+abbrev pub Wide : ℕ → List ℕ → ℕ → ℕ → ℕ → Type 0
+Wide n a limit at l = (l < at) × (limit ≤ end_of n a (suc l) - end_of n a l)
+
+pub wide_start : (n limit : ℕ) (a : List ℕ) → Enlarged n (Wide n a limit 0) a a
+wide_start n limit a = enlarged_start n (Wide n a limit 0) a (λ l z. let y = z.0 in absurd (omega arith))
+
+module _ {n limit at : ℕ} {a b : List ℕ} (u : Enlarged n (Wide n a limit at) a b) where
+  -- the group has enough, and is set
+  pub wide_more : {c : List ℕ} → limit ≤ end_of n a (suc at) - end_of n a at → RegionSet n at 5 1 b c → Enlarged n (Wide n a limit (at + 1)) a c
+  wide_more {c} wide s =
+      enlarged_same {named = λ l. Wide n a limit at l ⊎ (l ≡ at)} {named' = Wide n a limit (at + 1)}
+      (λ l y. elim y [ inl z ↦ (omega (arith, z.0), z.1) | inr z ↦ (omega arith, rw z wide) ])
+      (λ l z. elim (ℕ_discrete l at) [ yes e ↦ inr e | no d ↦ inl (omega (arith, z.0), z.1) ])
+      (enlarged_on n (Wide n a limit at) a b c at u s)
+
+  -- it has not
+  pub wide_same : (limit ≤ end_of n a (suc at) - end_of n a at → ⊥) → Enlarged n (Wide n a limit (at + 1)) a b
+  wide_same thin =
+      enlarged_same
+      (λ l z. (omega (arith, z.0), z.1))
+      (λ l z. (elim (ℕ_discrete l at) [ yes e ↦ absurd (thin (rw e at z.1)) | no d ↦ omega (arith, z.0) ], z.1))
+      u
+
+  pub wide_all : {count : ℕ} → at ≤ count → count ≤ at → Enlarged n (λ l. (l < count) × (limit ≤ end_of n a (suc l) - end_of n a l)) a b
+  wide_all lo hi = enlarged_same (λ l z. (omega (arith, z.0), z.1)) (λ l z. (omega (arith, z.0), z.1)) u
 
 -- ---- repainting
 
@@ -105,3 +138,7 @@ repainted_alike u = record {
 
 pub repainted_group : {n : ℕ} {named : ℕ → Type 0} {a b : List ℕ} {at : ℕ} → Repainted n named a b → Group n a at → Group n b at
 repainted_group {at = at} u g = group-alike (repainted_alike u) at g
+
+-- a turn over the log reads what it held
+pub repainted_turn : {n to i : ℕ} {named : ℕ → Type 0} {a b : List ℕ} → n ≤ 264196 → 8 * n ≤ length a → to ≤ n → i < to → Repainted n named a b → Group n a (plane n 7 a i) → LogTurn n to i a b
+repainted_turn few room last turn u group = log_turn few room last turn u.len (u.same 7 _ (λ z. absurd (omega arith)) (λ z. absurd (omega arith))) group

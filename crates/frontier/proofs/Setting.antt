@@ -9,7 +9,9 @@ use native.Mathlib.Omega.{arith}
 use lib.ListN.{length, set, length-set}
 use Rattle.grid.specs.Planes.{plane, end_of}
 use Rattle.grid.proofs.Planes.{plane-same, plane_else, plane_other}
+use Rattle.verdicts.specs.declared.large.Span.{Span}
 use Rattle.verdicts.specs.Groups.{Group}
+use Rattle.verdicts.proofs.Spans.{SpanTurn, span_turn, group-stretch}
 use Rattle.frontier.specs.Judging.{RegionSet}
 use Rattle.frontier.specs.Growing.{Repainted}
 
@@ -78,6 +80,11 @@ module _ (n at j v : ℕ) (a : List ℕ) (g : Group n a at) where
     high = omega (arith, g.some);
   }
 
+  -- what a turn reads is a place of the group
+  pub setting_turn : {i : ℕ} {b : List ℕ} {span : Span} → n ≤ 264196 → 8 * n ≤ length a → (j ≡ 0) ⊎ (4 ≤ j) → (span.from ≡ end_of n a at) × (span.to ≡ end_of n a (suc at)) → RegionSetting n at j v i a b → i < span.to → SpanTurn n i span a b
+  setting_turn few room other ends u turn =
+      span_turn few room (group-stretch g ends) u.len (λ q l. u.others 2 q (λ z. ⊎_elim (λ y. absurd (omega arith)) (λ y. absurd (omega arith)) other) l) (omega (arith, ends.0, u.low)) turn
+
   -- one turn: the store at the place p
   pub setting_on : (i : ℕ) (b : List ℕ) → RegionSetting n at j v i a b → i < end_of n a (suc at) → (x p : ℕ) → p < n → p ≡ plane n 2 a i → x ≡ j * n + p → x < length b → RegionSetting n at j v (i + 1) a (set b x v)
   setting_on i b u li x p lp e f lx = record {
@@ -119,6 +126,11 @@ module _ (n at v : ℕ) (a : List ℕ) (g : Group n a at) where
     low = omega arith;
     high = omega (arith, g.some);
   }
+
+  -- what a turn reads is a place of the group
+  pub repainting_turn : {i : ℕ} {b : List ℕ} {span : Span} → n ≤ 264196 → 8 * n ≤ length a → (span.from ≡ end_of n a at) × (span.to ≡ end_of n a (suc at)) → Repainting n at v i a b → i < span.to → SpanTurn n i span a b
+  repainting_turn few room ends u turn =
+      span_turn few room (group-stretch g ends) u.len (λ q l. u.same 2 q (λ z. absurd (omega arith)) (λ z. absurd (omega arith)) l) (omega (arith, ends.0, u.low)) turn
 
   -- one turn: both stores at the place p
   pub repainting_on : (i : ℕ) (b : List ℕ) → Repainting n at v i a b → i < end_of n a (suc at) → (p x : ℕ) → p < n → p ≡ plane n 2 a i → x ≡ 5 * n + p → x < length b → Repainting n at v (i + 1) a (set (set b p v) x 1)

@@ -76,7 +76,6 @@ module _ {rule : Rule} {grid : Grid} {k at end : ℕ} {a : List ℕ} (st : Stage
         record {
           rows = d.rows;
           cols = d.cols;
-          ways = d.ways;
           room = rw u.len d.room;
           paint = λ q l. rw (u.same 0 q (omega arith) l) (d.paint q l);
           shown = λ q l z. rw (u.same 0 q (omega arith) l) (d.shown q l (λ e. z (label_same q l ∙ e)));

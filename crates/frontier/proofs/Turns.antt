@@ -1,45 +1,29 @@
--- What is read at a cell, and in a turn over the log. Assumes nothing.
-use Prim.Native.Nat.{ℕ, suc, ◌+◌, ◌-◌, ◌*◌, ◌≤◌, ◌<◌}
+-- What holds where a step leads, and in a turn over the log. Assumes nothing.
+use Prim.Native.Nat.{ℕ, suc, ◌+◌, ◌*◌, ◌≤◌, ◌<◌}
 use mathlib.Core.Path.{◌≡◌, sym, ◌∙◌, subst}
 use mathlib.Core.Logic.{◌⊎◌, ⊎_elim}
 use mathlib.Core.List.{List}
-use native.Mathlib.Decide.{ℕ_discrete}
 use native.Mathlib.Omega.{arith}
 use lib.ListN.{length, get_or}
+use Rattle.std.specs.Prelude.{Some}
 use Rattle.grid.specs.declared.Grid.{Grid}
+use Rattle.grid.specs.declared.Move.{Move}
 use Rattle.grid.specs.Planes.{plane, end_of}
+use Rattle.grid.proofs.Places.{step_sound}
 use Rattle.grid.proofs.Planes.{plane_read}
-use Rattle.verdicts.specs.Steps.{area_of}
+use Rattle.verdicts.specs.Steps.{area_of, landing}
 use Rattle.verdicts.specs.Groups.{Group, GroupedSheet}
 use Rattle.verdicts.proofs.Keeping.{sheet-few}
 use Rattle.verdicts.proofs.Spans.{Within}
 
--- what is read at a cell: whether it is large, and its group's label
-pub record CellRead (n q : ℕ) (work : List ℕ) : Type 0 where
+-- what holds where a step leads
+pub record Landed (n q : ℕ) (work : List ℕ) : Type 0 where
   pub few : n ≤ 264196
   pub room : 8 * n ≤ length work
   pub inside : q < n
-  pub large : get_or work (5 * n + q) 0 ≡ plane n 5 work q
-  pub label : get_or work (n + q) 0 ≡ plane n 1 work q
-  pub fits : get_or work (n + q) 0 ≤ 264196
 
-pub cell_read : {grid : Grid} {work : List ℕ} {q : ℕ} → GroupedSheet grid work → q < area_of grid → CellRead (area_of grid) q work
-cell_read {grid} {work} {q} sheet inside =
-    let n = area_of grid in
-    let v = get_or work (n + q) 0 in
-    let few = sheet-few sheet in
-    let e : v ≡ plane n 1 work q = plane_read n 1 q (n + q) work (omega arith) in
-    record {
-      few = few;
-      room = sheet.room;
-      inside = inside;
-      large = plane_read n 5 q (5 * n + q) work (omega arith);
-      label = e;
-      fits = elim (ℕ_discrete v 0) [
-        | yes z ↦ omega arith
-        | no z ↦ (let g = sheet.groups q (v - 1) inside (sym e ∙ omega arith) in omega (arith, g.label))
-      ];
-    }
+pub step_read : {grid : Grid} (step : Move) {work : List ℕ} {q : ℕ} → GroupedSheet grid work → landing grid step ≡ Some q → Landed (area_of grid) q work
+step_read step sheet cell = record { few = sheet-few sheet; room = sheet.room; inside = (step_sound _ _ _ _ _ _ _ cell).inside }
 
 -- what holds of a place of a group, and of a number of its span before i
 module _ (P : ℕ → Type 0) {n at from to : ℕ} {a : List ℕ} (g : Group n a at) (ends : (from ≡ end_of n a at) × (to ≡ end_of n a (suc at))) {i : ℕ} where

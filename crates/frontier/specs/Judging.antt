@@ -1,7 +1,6 @@
 -- Judging in a pass, on the planes of the work area, region after region by the state at its start. Definitions only. Assumes nothing.
 -- A number by label tells what became of a region: 0 nothing, 1 frozen, c + 2 repainted into c.
-use Rattle.std.specs.Prelude.{ℕ, suc, ◌+◌, ◌-◌, ◌≤◌, ◌<◌, ◌≡◌, ◌⊎◌, Bool, true, false, not, ◌&&◌, ◌||◌, cond, List, eqb, ltb, length}
-use Rattle.std.proofs.Math.Option.{Option, none, some}
+use Rattle.std.specs.Prelude.{ℕ, suc, ◌+◌, ◌-◌, ◌≤◌, ◌<◌, ◌≡◌, ◌⊎◌, Bool, true, false, not, ◌&&◌, ◌||◌, List, eqb, ltb, length}
 use Rattle.base.specs.Places.{count}
 use Rattle.rules.specs.Regions.{Symmetric}
 use Rattle.rules.specs.Pass.{Rule, State, marked, large, fates, fate}
@@ -95,11 +94,6 @@ pub record Met (rule : Rule) (grid : Grid) (k : ℕ) (met : ℕ → Type 0) (a b
   pub judging : Judging rule (state_of (area_of grid) a) (plane (area_of grid) 1 a) (plane (area_of grid) 6 a) (plane (area_of grid) 6 b) (frozen_of (area_of grid) b)
   pub numbered : (x at : ℕ) → x < area_of grid → plane (area_of grid) 1 a x ≡ suc at → met at → plane (area_of grid) 6 a at ≡ 0 → plane (area_of grid) 6 b at ≡ code (fate (fates rule (state_of (area_of grid) a)) x)
   pub log : Filed (area_of grid) a b from end
-
--- the label of the cell that a step finds, if that is small; else 0
-unfoldable pub small_label : ℕ → List ℕ → Option ℕ → ℕ
-small_label n work none = 0
-small_label n work (some q) = cond (large_of n work q) 0 (plane n 1 work q)
 
 -- l + 1 is the label of a place that `at` names and that is not large
 pub record Small (n : ℕ) (work : List ℕ) (at : ℕ → Type 0) (l : ℕ) : Type 0 where

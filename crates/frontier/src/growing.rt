@@ -1,19 +1,19 @@
 // What becomes large: groups of at least `limit` places at the start, then repainted ones, and those of the index beside them.
-ghost use Rattle.std.specs.Prelude.{◌≡◌, true, false, ℕ, suc, ◌+◌, ◌-◌, ◌*◌, ◌≤◌, ◌<◌, length};
-ghost use Rattle.std.proofs.Math.Option.{some};
+ghost use Rattle.std.specs.Prelude.{◌≡◌, true, false, ℕ, suc, ◌+◌, ◌-◌, ◌≤◌, ◌<◌, Some};
 ghost use Rattle.rules.specs.Grid.{eight};
 ghost use Rattle.grid.specs.Planes.{plane, end_of};
 ghost use Rattle.verdicts.specs.Steps.{area_of, landing, OneStep};
-ghost use Rattle.verdicts.specs.Groups.{Group};
+ghost use Rattle.verdicts.specs.Groups.{Planes, Group};
 ghost use Rattle.frontier.specs.Growing.{Listed, Matches, MatchesAround, MatchesLogged, Enlarged, Repainted, Growth, Gained, Decided, Grew};
 
-use crate::regions::set_region;
-use grid::{Grid, Move, OFFSETS8, Step, on_edge, reached};
-use verdicts::{region_size, region_span, step_count};
+use crate::regions::{set_region, small_region};
+use grid::{Grid, Move, OFFSETS8, on_edge, reached};
+use verdicts::near::any_near;
+use verdicts::{region_size, region_span};
 
 // Of the first `count` groups those of at least `limit` places are large.
 pub fn mark_large(work: &mut [u32], n: usize, count: usize, limit: u32)
-    requires n_in_bounds { (8 * n ≤ length work.old) × (n ≤ 264196) }
+    requires planes { Planes n work.old }
     requires by_index { (at : ℕ) → at < count → Group n work.old at }
     ensures { Enlarged n (λ l. (l < count) × (limit ≤ end_of n work.old (suc l) - end_of n work.old l)) work.old work.new }
 {
@@ -27,7 +27,7 @@ pub fn mark_large(work: &mut [u32], n: usize, count: usize, limit: u32)
 
 // The places with the label at + 1 take the paint that their number tells, and are large.
 fn repaint(work: &mut [u32], n: usize, at: usize)
-    requires n_in_bounds { (8 * n ≤ length work.old) × (n ≤ 264196) }
+    requires planes { Planes n work.old }
     requires group { Group n work.old at × (1 ≤ plane n 6 work.old at) }
     ensures { Repainted n (λ l. l ≡ at) work.old work.new }
 {
@@ -43,7 +43,7 @@ fn repaint(work: &mut [u32], n: usize, at: usize)
 
 // The groups of the log from `from` on and before `to` are repainted.
 pub fn repaint_all(work: &mut [u32], n: usize, from: usize, to: usize)
-    requires n_in_bounds { (8 * n ≤ length work.old) × (n ≤ 264196) × (to ≤ n) }
+    requires planes { Planes n work.old × (to ≤ n) }
     requires by_index { (i : ℕ) → from ≤ i → i < to → Group n work.old (plane n 7 work.old i) × (1 ≤ plane n 6 work.old (plane n 7 work.old i)) }
     ensures { Repainted n (Listed n work.old from to) work.old work.new }
 {
@@ -56,82 +56,39 @@ pub fn repaint_all(work: &mut [u32], n: usize, from: usize, to: usize)
 // The group that a step finds becomes large, if it is small and of that paint; it is logged at `end`. The log's end then.
 fn absorb(work: &mut [u32], grid: Grid, step: Move, paint: u32, end: usize) -> usize
     requires { Growth grid end work.old × OneStep grid step }
-    ensures { Gained grid (λ q. (landing grid step ≡ some q) × (plane (area_of grid) 0 work.old q ≡ paint)) work.old work.new end result }
+    ensures { Gained grid (λ q. (landing grid step ≡ Some q) × (plane (area_of grid) 0 work.old q ≡ paint)) work.old work.new end result }
 {
     let n = grid.h * grid.w;
-    let Step::Cell(q) = reached(step.p, step.dy, step.dx, step.border, grid.h, grid.w) else {
+    let Some(q) = reached(step.p, step.dy, step.dx, step.border, grid.h, grid.w) else {
         return end;
     };
-    let own = work[q];
-    let other = own != paint;
+    let other = work[q] != paint;
     if other {
         return end;
     }
-    let last = work[5 * n + q];
-    let large = last != 0;
-    if large {
+    let Some(at) = small_region(work, n, q) else {
         return end;
-    }
-    let label = work[n + q] as usize;
-    if label == 0 {
-        return end;
-    }
-    let at = label - 1;
+    };
     set_region(work, n, at, 5, 1);
     work[7 * n + end] = at as u32;
     end + 1
 }
 
 // Whether the cell q is small and of the paint.
+#[tactic(auto, unfolding(grid::specs::Planes::plane))]
 fn small_at(work: &[u32], n: usize, q: usize, paint: u32) -> bool
-    requires { (8 * n ≤ length work.now) × (n ≤ 264196) × (q < n) }
+    requires { Planes n work.now × (q < n) }
     ensures { result ≡ false → plane n 0 work.now q ≡ paint → plane n 5 work.now q ≡ 0 → ⊥ }
 {
-    if work[q] != paint {
-        return false;
-    }
-    work[5 * n + q] == 0
+    work[q] == paint && work[5 * n + q] == 0
 }
 
-// Whether one of the three cells from q on is small and of the paint.
-fn small_in_row(work: &[u32], n: usize, q: usize, paint: u32) -> bool
-    requires { (8 * n ≤ length work.now) × (n ≤ 264196) × (q + 2 < n) }
-    ensures { result ≡ false → (i : ℕ) → i < 3 → plane n 0 work.now (q + i) ≡ paint → plane n 5 work.now (q + i) ≡ 0 → ⊥ }
-{
-    if small_at(work, n, q, paint) {
-        return true;
-    }
-    let next = q + 1;
-    if small_at(work, n, next, paint) {
-        return true;
-    }
-    let last = q + 2;
-    small_at(work, n, last, paint)
-}
-
-// Whether a small cell of the paint may be beside the place p: one is near, or p is too near the first or last place to look.
+// Whether a small cell of the paint may be beside the place p.
 fn small_near(work: &[u32], n: usize, w: usize, p: usize, paint: u32) -> bool
-    requires { (8 * n ≤ length work.now) × (n ≤ 264196) × (w ≤ 514) × (p < n) }
+    requires { Planes n work.now × (w ≤ 514) × (p < n) }
     ensures { result ≡ false → (q : ℕ) → eight w p q ≡ true → plane n 0 work.now q ≡ paint → plane n 5 work.now q ≡ 0 → ⊥ }
 {
-    let reach = w + 1;
-    if p < reach {
-        return true;
-    }
-    let far = p + reach;
-    if n <= far {
-        return true;
-    }
-    let above = p - reach;
-    if small_in_row(work, n, above, paint) {
-        return true;
-    }
-    let before = p - 1;
-    if small_in_row(work, n, before, paint) {
-        return true;
-    }
-    let below = far - 2;
-    small_in_row(work, n, below, paint)
+    any_near(n, w, p, |q| small_at(work, n, q, paint))
 }
 
 // The groups of its paint beside the place p become large. Whether there may be one is asked first, since the steps cost more.
@@ -145,16 +102,13 @@ fn absorb_beside(work: &mut [u32], grid: Grid, p: usize, from: usize) -> usize
         return from;
     }
     let border = on_edge(p, grid.h, grid.w);
-    let offsets = OFFSETS8;
-    let steps = step_count(grid);
+    let steps = grid.near.steps();
     let mut end = from;
-    for s in 0..8 {
+    for (s, offset) in OFFSETS8.iter().enumerate() {
         if s == steps {
             return end;
         }
-        let o = offsets[s];
-        let dy = o[0];
-        let dx = o[1];
+        let [dy, dx] = *offset;
         end = absorb(work, grid, Move { p, dy, dx, border }, paint, end);
     }
     end

@@ -95,7 +95,6 @@ module _ {grid : Grid} {by : Criteria} (palette : List Float) {a : List ℕ} {co
   grouped = record {
     rows = d.rows;
     cols = d.cols;
-    ways = d.ways;
     room = d.room;
     paint = d.paint;
     shown = λ q l z. let e = index_is n a q l (label-shown d q l (omega arith)) in omega arith;
@@ -164,7 +163,7 @@ pub record Labelling (grid : Grid) (by : Criteria) (a c : List ℕ) (regions : �
   pub thawed : (q : ℕ) → q < area_of grid → plane (area_of grid) 4 c q ≡ 0
 
 -- so they are once plane 4 is wiped, which leaves b, and the regions are labelled
-pub labelling : {grid : Grid} {by : Criteria} {a b c : List ℕ} → Sized grid.h grid.w grid.steps a → Indexed (area_of grid) by.k a → (t : Tally) → Wiped (4 * (area_of grid)) (area_of grid) a b →
+pub labelling : {grid : Grid} {by : Criteria} {a b c : List ℕ} → Sized grid.h grid.w a → Indexed (area_of grid) by.k a → (t : Tally) → Wiped (4 * (area_of grid)) (area_of grid) a b →
     Labelled (adjoins grid) (cells_of (area_of grid) b) (area_of grid) c t.regions t.taken → Filling.PlanesKept (area_of grid) b c → Labelling grid by a c t.regions
 unfolding plane
 labelling {grid} {b = b} {c = c} sized known t thaw lab kept =
@@ -173,7 +172,6 @@ labelling {grid} {b = b} {c = c} sized known t thaw lab kept =
       sheet = record {
         rows = sized.rows;
         cols = sized.cols;
-        ways = sized.count;
         room = rw (kept.size, thaw.len) sized.planes;
         paint = λ q l. let z = paint q l in omega (arith, known.below q l, known.few);
         regions = t.regions;

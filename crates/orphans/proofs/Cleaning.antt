@@ -93,8 +93,8 @@ module _ (rule : Rule) (n k max : ℕ) (a : List ℕ) where
 
 -- ---- as the code has it
 
-pub same_size : {h w steps : ℕ} {a b : List ℕ} → Sized h w steps a → length b ≡ length a → Sized h w steps b
-same_size s e = record { rows = s.rows; cols = s.cols; count = s.count; planes = rw e s.planes }
+pub same_size : {h w : ℕ} {a b : List ℕ} → Sized h w a → length b ≡ length a → Sized h w b
+same_size s e = record { rows = s.rows; cols = s.cols; planes = rw e s.planes }
 
 -- the planes were a before plane 4 was wiped
 pub cleaned-from : (rule : Rule) (n k max : ℕ) (a b c : List ℕ) (r : ℕ) → rule.places ≡ n → Wiped (4 * n) n a b → CleanedTo (clean rule max (state_of n b)) n k b c r → CleanedTo (clean rule max (fresh rule (cells_of n a))) n k a c r

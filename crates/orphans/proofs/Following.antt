@@ -155,7 +155,6 @@ module _ {rule : Rule} {grid : Grid} {k end mid last : ℕ} {a b d : List ℕ} (
       record {
         rows = old.rows;
         cols = old.cols;
-        ways = old.ways;
         room = rw v.len old.room;
         paint = λ q l. omega (arith, known'.below q l, known'.few);
         shown = λ q l z. shown' q l ((ready'.grouped.shown q (in_rule q l)).1 (let e = label-d q l in omega arith));

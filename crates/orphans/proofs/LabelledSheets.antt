@@ -76,7 +76,7 @@ module _ {grid : Grid} {a : List ℕ} (sheet : LabelledSheet grid a) where
   cells = cells_of n a
 
   pub symmetric : Symmetric adj
-  symmetric = neighbours_symmetric grid.steps sheet.ways grid.w
+  symmetric = neighbours_symmetric grid.near grid.w
 
   pub sheet-few : sheet.regions ≤ n
   sheet-few = regions_le n adj cells a sheet.regions sheet.taken (cells-size n a) symmetric sheet.labelled
@@ -113,7 +113,6 @@ module _ {grid : Grid} {a : List ℕ} (sheet : LabelledSheet grid a) where
     sheet_kept = record {
       rows = sheet.rows;
       cols = sheet.cols;
-      ways = sheet.ways;
       room = rw u.len sheet.room;
       paint = λ q l. rw (u.same 0 q (omega arith) l) (sheet.paint q l);
       regions = sheet.regions;

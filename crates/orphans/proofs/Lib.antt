@@ -1,4 +1,3 @@
-pub mod Wipes
 pub mod Regions
 pub mod LabelledSheets
 pub mod Cleaning
@@ -13,3 +12,4 @@ pub mod Continuing
 pub mod Alike
 pub mod Storing
 pub mod Refusing
+pub mod Ranges

@@ -3,18 +3,18 @@ use Prim.Native.Nat.{ℕ, ◌*◌}
 use mathlib.Core.Path.{◌≡◌, sym, ap, ◌∙◌}
 use mathlib.Core.Bool.{Bool, true, false, ◌&&◌}
 use mathlib.Core.List.{List, []}
-use mathlib.Core.Option.{none, some}
 use native.Mathlib.Omega.{arith}
 use lib.IntN.{ℤ, pos, negsuc}
 use lib.Signed.{le_z}
 use lib.ListN.{take}
 use lib.Seq.{get_or-take}
+use Rattle.std.specs.Prelude.{None, Some, Result, Ok, Err}
+use Rattle.base.specs.declared.Refusal.{Refusal}
+use Rattle.base.specs.declared.Refusal.TheVariants.{NoSuchEntry}
 use Rattle.base.specs.Places.{any}
 use Rattle.base.specs.Refusals.{refusal}
 use Rattle.base.proofs.Counting.{any_same}
-use Rattle.base.proofs.Refusing.{row_hit, row_last, rows_hit, rows_pass, some_unless, none_unless}
-use Rattle.rules.specs.declared.Cleaning.{Cleaning}
-use Rattle.rules.specs.declared.Cleaning.TheVariants as answers
+use Rattle.base.proofs.Refusing.{row_hit, row_last, rows_hit, rows_pass, some_unless, none_unless, some_answered, none_answered}
 use Rattle.rules.specs.Regions.{at}
 use Rattle.rules.specs.Sheet.{area, sheet_of, over, needed}
 use Rattle.rules.specs.Calls.{OrphansCall}
@@ -37,35 +37,35 @@ module _ (c : OrphansCall) where
 
   -- ---- the answer
 
-  abbrev pub Met : Cleaning → List ℤ → Type 0
+  abbrev pub Met : Result ℕ Refusal → List ℤ → Type 0
   Met answer cells = (answer ≡ orphans_answer c) × (cells ≡ orphans_cells c)
 
-  pub met_refused : (n : ℕ) → orphans_refusal c ≡ some n → Met (answers.Refused n) c.lent.cells
+  pub met_refused : (n : Refusal) → orphans_refusal c ≡ Some n → Met (Err n) c.lent.cells
   unfolding orphans_answer orphans_cells
-  met_refused n e = (some_unless _ _ e, some_unless _ _ e)
+  met_refused n e = (some_answered _ e, some_unless _ _ e)
 
-  pub met_cleaned : orphans_refusal c ≡ none → (count : ℕ) (new : List ℤ) → count ≡ (orphans_made c).passes → new ≡ over (orphans_made c).sheet.cells c.lent.cells → Met (answers.Passes count) new
+  pub met_cleaned : orphans_refusal c ≡ None → (count : ℕ) (new : List ℤ) → count ≡ (orphans_made c).passes → new ≡ over (orphans_made c).sheet.cells c.lent.cells → Met (Ok count) new
   unfolding orphans_answer orphans_cells
-  met_cleaned e count new f g = (none_unless _ _ e (ap answers.Passes f), none_unless _ _ e g)
+  met_cleaned e count new f g = (none_answered _ e f, none_unless _ _ e g)
 
   -- ---- rows 1 to 3, rows 4 to 6, and row 7
 
-  pub by_sheet : {n : ℕ} → refusal (lent_rows c.lent false) ≡ some n → orphans_refusal c ≡ some n
+  pub by_sheet : {n : Refusal} → refusal (lent_rows c.lent false) ≡ Some n → orphans_refusal c ≡ Some n
   unfolding orphans_refusal
   by_sheet e = rows_hit _ _ e
 
-  module _ (one : refusal (lent_rows c.lent false) ≡ none) where
-    pub by_palette : {n : ℕ} → refusal (palette_rows c.palette (bad_limits c.limits c.passes)) ≡ some n → orphans_refusal c ≡ some n
+  module _ (one : refusal (lent_rows c.lent false) ≡ None) where
+    pub by_palette : {n : Refusal} → refusal (palette_rows c.palette (bad_limits c.limits c.passes)) ≡ Some n → orphans_refusal c ≡ Some n
     unfolding orphans_refusal
     by_palette e = rows_pass _ _ one ∙ rows_hit _ _ e
 
-    module _ (two : refusal (palette_rows c.palette (bad_limits c.limits c.passes)) ≡ none) where
-      pub by_index : unnamed ≡ true → orphans_refusal c ≡ some 7
+    module _ (two : refusal (palette_rows c.palette (bad_limits c.limits c.passes)) ≡ None) where
+      pub by_index : unnamed ≡ true → orphans_refusal c ≡ Some NoSuchEntry
       unfolding orphans_refusal bad_index sheet_of area
       by_index y = rows_pass _ _ one ∙ rows_pass _ _ two ∙ row_hit _ _ y
 
       module _ (z : unnamed ≡ false) where
-        pub accepted : orphans_refusal c ≡ none
+        pub accepted : orphans_refusal c ≡ None
         unfolding orphans_refusal bad_index sheet_of area
         accepted = rows_pass _ _ one ∙ rows_pass _ _ two ∙ row_last _ z
 

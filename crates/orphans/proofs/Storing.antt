@@ -5,7 +5,7 @@ use mathlib.Core.Bool.{true, false}
 use mathlib.Core.List.{List, ◌++◌}
 use native.Mathlib.Numerals.{add-one}
 use native.Mathlib.Omega.{arith}
-use lib.Dec.{T, leb}
+use lib.Dec.{T}
 use lib.Ieee.{Float}
 use lib.IntN.{ℤ, pos, negsuc}
 use lib.Signed.{non_neg, lt_z, le_z}
@@ -13,7 +13,7 @@ use lib.ListN.{length, take, drop, take-append-drop}
 use lib.Seq.{ext_get_or, get_or-take, length-take-le}
 use Rattle.base.specs.Places.{table}
 use Rattle.base.specs.Outputs.{filled}
-use Rattle.base.proofs.Counting.{case, clash, leb_yes, yes_leb, no_leb, table_at, table-length, any_no, table_same}
+use Rattle.base.proofs.Counting.{case, clash, yes_leb, no_leb, table_at, table-length, any_no, table_same}
 use Rattle.rules.specs.Regions.{at, opaque, Symmetric}
 use Rattle.rules.specs.Pass.{Rule, State, pass, repaints, moves, fates, fresh, Cleaned, clean}
 use Rattle.rules.specs.Palette.{palette_of, colour}
@@ -25,6 +25,7 @@ use Rattle.rules.proofs.Passes.{pass-length, repainted, unpainted_kept}
 use Rattle.rules.proofs.Runs.{clean_go, clean_stop, run_length}
 use Rattle.rules.proofs.More.{pass-opaque, clean-opaque, limit_one}
 use Rattle.rules.proofs.Grids.{eight_symmetric}
+use Rattle.grid.specs.declared.Neighbourhood.TheVariants.{Eight}
 use Rattle.grid.specs.declared.Grid.{Grid}
 use Rattle.grid.specs.Steps.{neighbours}
 use Rattle.grid.specs.Planes.{plane, paint_of, cells_of}
@@ -109,7 +110,7 @@ module _ (rule : Rule) (symm : Symmetric rule.adj) (n k passes : ℕ) (e : rule.
 
 -- the grid of a sheet, with steps to all eight neighbours
 abbrev grid_of : ℕ → ℕ → Grid
-grid_of h w = record { h = h; w = w; steps = 8 }
+grid_of h w = record { h = h; w = w; near = Eight }
 
 -- what its cleaning goes by
 abbrev criteria : ℕ → ℕ → Float → Criteria
@@ -120,11 +121,7 @@ rule-is : (h w limit : ℕ) (palette : List Float) (k : ℕ) (region : ℤ) (rea
 unfolding rule_of rule_on entry_distance colour neighbours
 rule-is h w limit palette k region reach e = rw e
 
-pub below : (z : ℤ) → lt_z z (pos 2) ≡ true → le_z (pos 2) z ≡ false
-below (pos i) e = let l = leb_yes {m = suc i} {n = 2} e in case (leb 2 i) (λ y. let m = leb_yes {m = 2} {n = i} y in absurd (omega arith)) (λ z. z)
-below (negsuc i) e = refl
-
-pub not_below : (z : ℤ) → lt_z z (pos 2) ≡ false → le_z (pos 2) z ≡ true
+not_below : (z : ℤ) → lt_z z (pos 2) ≡ false → le_z (pos 2) z ≡ true
 not_below (pos i) e = let l = no_leb {m = suc i} {n = 2} e in yes_leb {m = 2} {n = i} (omega arith)
 not_below (negsuc i) e = clash refl e
 

@@ -1,5 +1,5 @@
 -- The planes before the first pass: a labelled sheet, with its large regions told. Definitions only. Assumes nothing.
-use Rattle.std.specs.Prelude.{ℕ, ◌-◌, ◌*◌, ◌≤◌, ◌<◌, ◌≡◌, ◌⊎◌, Bool, not, cond, ◌&&◌, List, eqb, leb, length}
+use Rattle.std.specs.Prelude.{ℕ, ◌-◌, ◌*◌, ◌≤◌, ◌<◌, ◌≡◌, Bool, not, cond, ◌&&◌, List, eqb, leb, length}
 use Rattle.grid.specs.declared.Grid.{Grid}
 use Rattle.grid.specs.Planes.{plane, cells_of, end_of, Labelled}
 use Rattle.verdicts.specs.declared.Criteria.{Criteria}
@@ -10,7 +10,6 @@ use Rattle.verdicts.specs.Judging.{Indexed}
 pub record LabelledSheet (grid : Grid) (work : List ℕ) : Type 0 where
   pub rows : grid.h ≤ 514
   pub cols : grid.w ≤ 514
-  pub ways : (grid.steps ≡ 4) ⊎ (grid.steps ≡ 8)
   pub room : 8 * (area_of grid) ≤ length work
   pub paint : (q : ℕ) → q < area_of grid → plane (area_of grid) 0 work q ≤ 256
   pub regions : ℕ

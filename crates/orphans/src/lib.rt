@@ -22,45 +22,39 @@ ghost use Rattle.orphans.specs.Passing.{CleanedTo};
 use crate::passing::{first_pass, later_passes};
 use crate::rows::{bad_index, bad_limits};
 use crate::starting::{any_small, wipe};
-use base::Filling;
+use base::Refusal;
 use frontier::growing::mark_large;
-use grid::Grid;
 use grid::tile::{load, store};
+use grid::{Grid, Neighbourhood};
 use labels::label::label_planes;
 use refusals::{palette_refusal, sheet_refusal};
-use rules::{Cleaning, Limits, Size};
-use verdicts::{Criteria, step_count};
+use rules::{Limits, Size};
+use verdicts::{Criteria, Judge};
 
 // Cleaning of the sheet in plane 0 with at most `max_passes` passes; one that repaints nothing is the last. The count of those that repaint.
-pub fn clean_planes(
-    work: &mut [u32],
-    grid: Grid,
-    palette: &[f64],
-    by: Criteria,
-    max_passes: u32,
-) -> u32
-    requires sized { Sized grid.h grid.w grid.steps work.old }
-    requires indexed { Indexed (area_of grid) by.k work.old × (length palette.now ≡ 768) }
-    ensures { CleanedTo (clean (rule_of grid by palette.now) max_passes (fresh (rule_of grid by palette.now) (cells_of (area_of grid) work.old))) (area_of grid) by.k work.old work.new result }
+pub fn clean_planes(work: &mut [u32], judge: Judge, max_passes: u32) -> u32
+    requires sized { Sized judge.grid.h judge.grid.w work.old }
+    requires indexed { Indexed (area_of judge.grid) judge.by.k work.old }
+    ensures { CleanedTo (clean (rule_of judge.entry.grid judge.entry.by judge.entry.palette.now) max_passes (fresh (rule_of judge.entry.grid judge.entry.by judge.entry.palette.now) (cells_of (area_of judge.entry.grid) work.old))) (area_of judge.entry.grid) judge.entry.by.k work.old work.new result }
 {
-    let n = grid.h * grid.w;
+    let n = judge.grid.h * judge.grid.w;
     wipe(work, 4 * n, n);
     if max_passes == 0 {
         return 0;
     }
-    let t = label_planes(work, grid.h, grid.w, step_count(grid));
+    let t = label_planes(work, judge.grid);
     let count = t.regions as usize;
-    if !any_small(work, n, count, by.limit) {
+    if !any_small(work, n, count, judge.by.limit) {
         return 0;
     }
     wipe(work, 5 * n, n + count);
-    mark_large(work, n, count, by.limit);
-    let end = first_pass(work, grid, palette, by, count);
+    mark_large(work, n, count, judge.by.limit);
+    let end = first_pass(work, judge, count);
     if end == 0 {
         return 0;
     }
     let left = max_passes - 1;
-    let more = later_passes(work, grid, palette, by, end, left);
+    let more = later_passes(work, judge, end, left);
     more + 1
 }
 
@@ -87,13 +81,14 @@ pub fn clean_sheet(
     let w = size.w;
     let limit = min_region as u32;
     load(cells, work, 0, w, h, w);
-    let grid = Grid { h, w, steps: 8 };
+    let near = Neighbourhood::Eight;
     let by = Criteria {
         k,
         limit,
         max_delta: limits.colour,
     };
-    let count = clean_planes(work, grid, palette, by, max_passes);
+    let grid = Grid { h, w, near };
+    let count = clean_planes(work, Judge { grid, palette, by }, max_passes);
     store(work, cells, 0, w, h, w);
     count
 }
@@ -110,7 +105,7 @@ pub fn remove_orphans(
     max_passes: u32,
     orphan_max_delta: f64,
     work: &mut [u32],
-) -> Cleaning
+) -> Result<u32, Refusal>
     ensures { (let call : OrphansCall = record {
       lent = lent_sheet cells.old h w (length work.old);
       palette = palette_of palette.now k;
@@ -118,20 +113,14 @@ pub fn remove_orphans(
       passes = max_passes;
     } in (result ≡ orphans_answer call) × (cells.new ≡ orphans_cells call)) }
 {
-    if let Filling::Refused(row) = sheet_refusal(h, w, false, cells.len(), work.len()) {
-        return Cleaning::Refused(row);
-    }
-    let bad = bad_limits(orphan_max_delta, max_passes);
-    if let Filling::Refused(row) = palette_refusal(palette, k, bad) {
-        return Cleaning::Refused(row);
-    }
+    sheet_refusal(h, w, false, cells.len(), work.len())?;
+    palette_refusal(palette, k, bad_limits(orphan_max_delta, max_passes))?;
     if bad_index(cells, h * w, k, orphan_min_region) {
-        return Cleaning::Refused(7);
+        return Err(Refusal::NoSuchEntry);
     }
     let limits = Limits {
         region: orphan_min_region,
         colour: orphan_max_delta,
     };
-    let count = clean_sheet(cells, Size { h, w }, palette, k, limits, max_passes, work);
-    Cleaning::Passes(count)
+    Ok(clean_sheet(cells, Size { h, w }, palette, k, limits, max_passes, work))
 }

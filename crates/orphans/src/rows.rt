@@ -11,10 +11,7 @@ use refusals::limit_in_range;
 pub fn bad_limits(max_delta: f64, max_passes: u32) -> bool
     ensures { result ≡ (not (between 0 1024 max_delta) || ltb 65535 max_passes) }
 {
-    if !limit_in_range(max_delta) {
-        return true;
-    }
-    65535 < max_passes
+    !limit_in_range(max_delta) || 65535 < max_passes
 }
 
 // Row 7: regions can be small, and one of the first n cells names no entry.
@@ -22,9 +19,6 @@ pub fn bad_index(cells: &[i32], n: usize, k: usize, region: i32) -> bool
     requires { (k ≤ 256) × (n ≤ length cells.now) }
     ensures { result ≡ (le_z (pos 2) region && any n (λ p. le_z (pos k) (at (take n cells.now) p))) }
 {
-    let none_small = region < 2;
-    if none_small {
-        return false;
-    }
-    refusals::bad_index(cells, n, k)
+    let some_small = 2 <= region;
+    some_small && refusals::bad_index(cells, n, k)
 }

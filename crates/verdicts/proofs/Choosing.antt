@@ -1,11 +1,11 @@
 -- The choice among indices, step by step as the code makes it, and that it is the rules' choice. Assumes nothing.
-use Prim.Native.Nat.{ℕ, zero, suc, ◌+◌, ◌≤◌, ◌<◌, zero-le}
+use Prim.Native.Nat.{ℕ, zero, suc, ◌+◌, ◌≤◌, ◌<◌, max, zero-le}
 use mathlib.Core.Path.{◌≡◌, refl, sym, ap, ◌∙◌, subst}
 use mathlib.Core.Logic.{⊎_elim}
 use mathlib.Core.Bool.{Bool, true, false, ◌&&◌, cond}
 use mathlib.Core.List.{List}
-use mathlib.Core.Option.{Option, none, some}
-use native.Mathlib.Nat.{le_antisymm, le_refl, le_step, max-eq_left, max-eq_right}
+use Rattle.std.specs.Prelude.{Option, None, Some}
+use native.Mathlib.Nat.{le_antisymm, le_refl, le_step}
 use native.Mathlib.Numerals.{add-one}
 use native.Mathlib.Decide.{ℕ_discrete}
 use native.Mathlib.Omega.{arith}
@@ -13,15 +13,16 @@ use borrow.Author.Tests.{eq-eqb, ne_eqb}
 use lib.Dec.{eqb, ltb}
 use lib.Ieee.{Float, lt}
 use lib.IntN.{ℤ}
-use lib.ListN.{get_or, replicate, get_or-replicate}
+use lib.ListN.{length, take, get_or, replicate, get_or-replicate}
+use Rattle.std.proofs.lemmas.Grind.{common_steps}
 use Rattle.base.specs.Places.{greatest}
 use Rattle.base.proofs.Counting.{case, clash, left, right, both, same_test, eqb_yes, yes_eqb, leb_yes, yes_leb, no_leb, count_some, count_yes, greatest_above, greatest-is}
 use Rattle.rules.specs.Palette.{first_least}
 use Rattle.rules.specs.Regions.{at, index}
 use Rattle.rules.specs.Pass.{Rule, marked, votes, most, frequent, judged}
-use Rattle.verdicts.specs.declared.target.Target.{Target}
-use Rattle.verdicts.specs.declared.target.Target.TheVariants.{Nothing, Index}
-use Rattle.verdicts.specs.Choice.{peak, nearer, nearest, decision, choice}
+use Rattle.verdicts.specs.declared.target.Candidate.{Candidate}
+use Rattle.verdicts.specs.declared.target.Verdict.TheVariants.{Stays}
+use Rattle.verdicts.specs.Choice.{peak, candidate, nearer, nearest, verdict_on, number, decision, choice}
 use Rattle.verdicts.specs.Judging.{code}
 
 -- ---- the loops
@@ -31,53 +32,51 @@ module _ (counts : List ℕ) where
   unfolding peak greatest
   peak-start = refl
 
-  pub peak-more : (c b : ℕ) → b ≡ peak counts c → b < get_or counts c 0 → get_or counts c 0 ≡ peak counts (c + 1)
+  pub peak-more : (c b v : ℕ) → b ≡ peak counts c → v ≡ get_or counts c 0 → max b v ≡ peak counts (c + 1)
   unfolding peak greatest
-  peak-more c b e l = rw (add-one c, ← e) (sym (max-eq_left (omega arith)))
+  peak-more c b v e f = rw (add-one c, f) (omega (arith, e))
 
-  pub peak-same : (c b : ℕ) → b ≡ peak counts c → get_or counts c 0 ≤ b → b ≡ peak counts (c + 1)
-  unfolding peak greatest
-  peak-same c b e l = rw (add-one c, ← e) (sym (max-eq_right (omega arith)))
+  -- what is read of the first k counts
+  pub first-counts : (k i : ℕ) → i < length (take k counts) → get_or (take k counts) i 0 ≡ get_or counts i 0
+  first-counts k i l = grind (arith, common_steps)
 
 module _ (far : ℕ → Float) (counts : List ℕ) (m : ℕ) where
-  pub nearest-start : Nothing ≡ nearest far counts m 0
+  pub nearest-start : None ≡ nearest far counts m 0
   unfolding nearest
   nearest-start = refl
 
-  pub nearest-more : (c : ℕ) (t : Target) → t ≡ nearest far counts m c → get_or counts c 0 ≡ m → nearer t c (far c) ≡ nearest far counts m (c + 1)
+  pub nearest-more : (c : ℕ) (t : Option Candidate) → t ≡ nearest far counts m c → get_or counts c 0 ≡ m → Some (nearer t (candidate c (far c))) ≡ nearest far counts m (c + 1)
   unfolding nearest
   nearest-more c t e y = rw (add-one c, eq-eqb (get_or counts c 0) m y, e)
 
-  pub nearest-same : (c : ℕ) (t : Target) → t ≡ nearest far counts m c → (get_or counts c 0 ≡ m → ⊥) → t ≡ nearest far counts m (c + 1)
+  pub nearest-same : (c : ℕ) (t : Option Candidate) → t ≡ nearest far counts m c → (get_or counts c 0 ≡ m → ⊥) → t ≡ nearest far counts m (c + 1)
   unfolding nearest
   nearest-same c t e z = rw (add-one c, ne_eqb (get_or counts c 0) m z) e
 
-  nearer-below : (t : Target) (c b : ℕ) (d e : Float) → ((x : ℕ) (y : Float) → t ≡ Index x y → x < c) → nearer t c d ≡ Index b e → b < suc c
-  unfolding nearer
-  nearer-below Nothing c b d e f h = let z : c ≡ b = cc in omega arith
-  nearer-below (Index x y) c b d e f h =
-      case (lt d y)
-      (λ u. let h' : Index c d ≡ Index b e = rw u at h in let z : c ≡ b = cc in omega arith)
-      (λ u. let h' : Index x y ≡ Index b e = rw u at h in le_step (f b e h'))
+  nearer-below : (t : Option Candidate) (c : ℕ) (d : Float) → ((x : Candidate) → t ≡ Some x → x.index < c) → (nearer t (candidate c d)).index < suc c
+  unfolding nearer candidate
+  nearer-below None c d f = omega arith
+  nearer-below (Some x) c d f = case (lt d x.distance) (λ u. rw u (omega arith)) (λ u. rw u (le_step (f x refl)))
 
-  pub nearest-below : (k c : ℕ) (d : Float) → nearest far counts m k ≡ Index c d → c < k
+  pub nearest-below : (k : ℕ) (b : Candidate) → nearest far counts m k ≡ Some b → b.index < k
   unfolding nearest
-  nearest-below zero c d e = let z : ◌≡◌ {A = ℕ} 0 1 = cc in absurd (omega arith)
-  nearest-below (suc k) c d e =
+  nearest-below zero b e = absurd (cc)
+  nearest-below (suc k) b e =
       case (eqb (get_or counts k 0) m)
-      (λ y. nearer-below (nearest far counts m k) k c (far k) d (λ b g h. nearest-below k b g h) (rw y at e))
-      (λ z. le_step (nearest-below k c d (rw z at e)))
+      (λ y. let z : nearer (nearest far counts m k) (candidate k (far k)) ≡ b = (let h : Some (nearer (nearest far counts m k) (candidate k (far k))) ≡ Some b = rw y at e in cc) in
+      rw (← z) (nearer-below (nearest far counts m k) k (far k) (λ x h. nearest-below k x h)))
+      (λ z. le_step (nearest-below k b (rw z at e)))
 
 module _ (far : ℕ → Float) (counts : List ℕ) (k m : ℕ) (reach : Float) (e : m ≡ peak counts k) where
-  pub choice_none : m ≡ 0 → 0 ≡ choice far counts k reach
+  pub choice_none : m ≡ 0 → Stays ≡ choice far counts k reach
   unfolding choice
   choice_none z = rw (eq-eqb (peak counts k) 0 (sym e ∙ z))
 
-  pub choice_some : (m ≡ 0 → ⊥) → (t : Target) → t ≡ nearest far counts m k → decision t reach ≡ choice far counts k reach
+  pub choice_some : (m ≡ 0 → ⊥) → (t : Option Candidate) → t ≡ nearest far counts m k → decision t reach ≡ choice far counts k reach
   unfolding choice
   choice_some z t h =
       rw (ne_eqb (peak counts k) 0 (λ y. z (e ∙ y)))
-      (ap (λ (x : Target). decision x reach) h ∙ ap (λ (x : ℕ). decision (nearest far counts x k) reach) e)
+      (ap (λ (x : Option Candidate). decision x reach) h ∙ ap (λ (x : ℕ). decision (nearest far counts x k) reach) e)
 
 -- before the first vote no index has any
 pub peak_none : (k : ℕ) → k ≤ 256 → 0 ≡ peak (replicate 256 0) k
@@ -86,16 +85,16 @@ peak_none k l =
     ⊎_elim sym (λ w. sym (w.3 ∙ get_or-replicate 256 w.0 0 0 (omega (arith, w.1))))
     (greatest-is k (λ c. true) (λ c. get_or (replicate 256 0) c 0))
 
-pub decision_none : (reach : Float) → 0 ≡ decision Nothing reach
+pub decision_none : (reach : Float) → Stays ≡ decision None reach
 unfolding decision
 decision_none reach = refl
 
 -- ---- the rules' choice
 
 -- a target of the rules with its distance
-as_target : (ℕ → Float) → Option ℕ → Target
-as_target far none = Nothing
-as_target far (some c) = Index c (far c)
+as_target : (ℕ → Float) → Option ℕ → Option Candidate
+as_target far None = None
+as_target far (Some c) = Some (candidate c (far c))
 
 module _ (rule : Rule) (cells : List ℤ) (voters : List Bool) (own : ℕ) (counts : List ℕ) (k : ℕ)
     (tallied : (c : ℕ) → c < k → get_or counts c 0 ≡ votes rule cells voters c)
@@ -138,11 +137,11 @@ module _ (rule : Rule) (cells : List ℤ) (voters : List Bool) (own : ℕ) (coun
           omega (arith, w.3))
           (greatest-is rule.places (marked voters) (λ q. votes rule cells voters (index (at cells q))))
 
-  choose_nearer : (b : Bool) (c : ℕ) (o : Option ℕ) → cond b (nearer (as_target far o) c (far c)) (as_target far o) ≡ as_target far (cond b (elim o [ none ↦ some c | some i ↦ some (cond (lt (far c) (far i)) c i) ]) o)
-  unfolding nearer as_target
+  choose_nearer : (b : Bool) (c : ℕ) (o : Option ℕ) → cond b (Some (nearer (as_target far o) (candidate c (far c)))) (as_target far o) ≡ as_target far (cond b (elim o [ None ↦ Some c | Some i ↦ Some (cond (lt (far c) (far i)) c i) ]) o)
+  unfolding nearer candidate as_target
   choose_nearer false c o = refl
-  choose_nearer true c none = refl
-  choose_nearer true c (some b) = case (lt (far c) (far b)) (λ y. rw y) (λ z. rw z)
+  choose_nearer true c None = refl
+  choose_nearer true c (Some b) = case (lt (far c) (far b)) (λ y. rw y) (λ z. rw z)
 
   frequent-is : (most rule cells voters ≡ 0 → ⊥) → (c : ℕ) → eqb (votes rule cells voters c) (most rule cells voters) ≡ frequent rule cells voters c
   unfolding frequent
@@ -169,29 +168,29 @@ module _ (rule : Rule) (cells : List ℤ) (voters : List Bool) (own : ℕ) (coun
       absurd (omega arith))
       (λ u. u)
 
-  none_target : most rule cells voters ≡ 0 → (j : ℕ) → below j ≡ none
+  none_target : most rule cells voters ≡ 0 → (j : ℕ) → below j ≡ None
   unfolding first_least
   none_target z zero = refl
   none_target z (suc j) = rw (none_frequent z j) (none_target z j)
 
-  decision-is : (o : Option ℕ) → decision (as_target far o) rule.reach ≡ code (judged rule own o)
-  unfolding decision as_target code judged
-  decision-is none = refl
-  decision-is (some c) = case (lt (far c) rule.reach) (λ y. rw y) (λ z. rw z)
+  decision-is : (o : Option ℕ) → number (decision (as_target far o) rule.reach) ≡ code (judged rule own o)
+  unfolding number decision verdict_on candidate as_target code judged
+  decision-is None = refl
+  decision-is (Some c) = case (lt (far c) rule.reach) (λ y. rw y) (λ z. rw z)
 
-  still : (o : Option ℕ) → o ≡ none → 0 ≡ code (judged rule own o)
-  unfolding code judged
+  still : (o : Option ℕ) → o ≡ None → number Stays ≡ code (judged rule own o)
+  unfolding number code judged
   still o e = rw e
 
-  pub choice-is : choice far counts k rule.reach ≡ code (judged rule own (below k))
+  pub choice-is : number (choice far counts k rule.reach) ≡ code (judged rule own (below k))
   choice-is =
       case (eqb (most rule cells voters) 0)
-      (λ y. sym (choice_none far counts k (peak counts k) rule.reach refl (peak-most ∙ eqb_yes y))
+      (λ y. ap number (sym (choice_none far counts k (peak counts k) rule.reach refl (peak-most ∙ eqb_yes y)))
       ∙ still (below k) (none_target (eqb_yes y) k))
       (λ y. let z : most rule cells voters ≡ 0 → ⊥ = (λ e. clash (yes_eqb {m = most rule cells voters} {n = 0} e) y) in
-      sym (choice_some far counts k (peak counts k) rule.reach refl (λ e. z (sym peak-most ∙ e)) (nearest far counts (peak counts k) k) refl)
-      ∙ ap (λ (x : ℕ). decision (nearest far counts x k) rule.reach) peak-most
-      ∙ ap (λ (t : Target). decision t rule.reach) (nearest-target z k (omega arith))
+      ap number (sym (choice_some far counts k (peak counts k) rule.reach refl (λ e. z (sym peak-most ∙ e)) (nearest far counts (peak counts k) k) refl))
+      ∙ ap (λ (x : ℕ). number (decision (nearest far counts x k) rule.reach)) peak-most
+      ∙ ap (λ (t : Option Candidate). number (decision t rule.reach)) (nearest-target z k (omega arith))
       ∙ decision-is (below k))
 
 -- ---- all votes are for one index
@@ -229,22 +228,22 @@ module _ (rule : Rule) (cells : List ℤ) (voters : List Bool) (own c q : ℕ) (
   abbrev first : ℕ → Option ℕ
   first j = first_least (frequent rule cells voters) (rule.dist own) j
 
-  one_before : (j : ℕ) → j ≤ c → first j ≡ none
+  one_before : (j : ℕ) → j ≤ c → first j ≡ None
   unfolding first_least
   one_before zero h = refl
   one_before (suc j) h = rw (other_frequent j (λ e. omega arith)) (one_before j (omega arith))
 
   -- the target is that index
-  pub one_target : (j : ℕ) → c < j → first j ≡ some c
+  pub one_target : (j : ℕ) → c < j → first j ≡ Some c
   unfolding first_least
   one_target zero h = absurd (omega arith)
   one_target (suc j) h =
       elim (ℕ_discrete j c) [
-        | yes e ↦ rw (e, one_frequent, one_before c (le_refl c)) (ap some e)
+        | yes e ↦ rw (e, one_frequent, one_before c (le_refl c)) (ap (λ (x : ℕ). Some x) e)
         | no d ↦ rw (other_frequent j d) (one_target j (omega arith))
       ]
 
 -- a target as the number that plane 6 holds
-pub decision_one : (rule : Rule) (own c : ℕ) → decision (Index c (rule.dist own c)) rule.reach ≡ code (judged rule own (some c))
-unfolding decision code judged
+pub decision_one : (rule : Rule) (own c : ℕ) → number (decision (Some (candidate c (rule.dist own c))) rule.reach) ≡ code (judged rule own (Some c))
+unfolding number decision verdict_on candidate code judged
 decision_one rule own c = case (lt (rule.dist own c) rule.reach) (λ y. rw y) (λ z. rw z)

@@ -7,13 +7,16 @@ use Rattle.grid.specs.declared.Grid.{Grid}
 use Rattle.grid.specs.Planes.{plane, end_of}
 use Rattle.grid.proofs.Places.{area}
 use Rattle.verdicts.specs.Steps.{area_of}
-use Rattle.verdicts.specs.Groups.{Group, GroupedSheet, CanVote}
+use Rattle.verdicts.specs.Groups.{Planes, Group, GroupedSheet, CanVote}
 use Rattle.verdicts.specs.Polling.{MarksOnly, Polled}
 use Rattle.verdicts.proofs.Votes.{large_was}
 
 -- a sheet's grid has few cells
 pub sheet-few : {grid : Grid} {work : List ℕ} → GroupedSheet grid work → area_of grid ≤ 264196
 sheet-few {grid} b = area grid.h grid.w b.rows b.cols
+
+pub sheet-planes : {grid : Grid} {work : List ℕ} → GroupedSheet grid work → Planes (area_of grid) work
+sheet-planes b = record { few = sheet-few b; room = b.room }
 
 pub sheet-votes : {grid : Grid} {work : List ℕ} → GroupedSheet grid work → CanVote (area_of grid) work
 sheet-votes b = record { few = sheet-few b; room = b.room; paint = b.paint; large = b.large }
@@ -61,7 +64,6 @@ sheet_polled {grid} {b = b} some u d =
     record {
       rows = d.rows;
       cols = d.cols;
-      ways = d.ways;
       room = rw k.len d.room;
       paint = λ q l. rw (paint q l) (d.paint q l);
       shown = λ q l z. rw (paint q l) (d.shown q l (λ e. z (k.same 1 q (λ z. absurd (omega arith)) l ∙ e)));

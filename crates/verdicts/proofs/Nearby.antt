@@ -1,9 +1,7 @@
 -- Looking at the cells beside a place: each neighbour stands in one of three rows of three. Assumes nothing.
-use Prim.Native.Nat.{ℕ, zero, suc, ◌+◌, ◌-◌, ◌*◌, ◌/◌, ◌%◌, ◌≤◌, ◌<◌}
-use mathlib.Core.Path.{◌≡◌, sym, ap, ◌∙◌}
-use mathlib.Core.Logic.{◌⊎◌}
+use Prim.Native.Nat.{ℕ, ◌+◌, ◌-◌, ◌*◌, ◌/◌, ◌%◌, ◌≤◌, ◌<◌}
+use mathlib.Core.Path.{◌≡◌, ap}
 use mathlib.Core.Bool.{true, not, ◌&&◌}
-use mathlib.Core.List.{List}
 use native.Mathlib.Nat.{div-add-mod'}
 use native.Mathlib.Numerals.{add-one}
 use native.Mathlib.Decide.{ℕ_discrete, dec_lt}
@@ -12,7 +10,6 @@ use lib.Dec.{eqb, leb}
 use Rattle.base.proofs.Counting.{left, right, leb_yes}
 use Rattle.rules.specs.Grid.{close, eight}
 use Rattle.grid.specs.declared.Grid.{Grid}
-use Rattle.grid.specs.Planes.{plane}
 use Rattle.grid.proofs.Places.{neighbours_complete, step_few, hop-eight}
 use Rattle.verdicts.specs.Steps.{area_of, adjoins}
 
@@ -57,13 +54,6 @@ apart_around w p q a =
       ]
     ]
 
--- what holds of three places in a row, one by one
-pub row-each : (P : ℕ → Type 0) (q : ℕ) → P q → P (q + 1) → P (q + 2) → (i : ℕ) → i < 3 → P (q + i)
-row-each P q x y z zero l = let e : q + 0 ≡ q = omega arith in rw e x
-row-each P q x y z (suc zero) l = y
-row-each P q x y z (suc (suc zero)) l = z
-row-each P q x y z (suc (suc (suc i))) l = absurd (omega arith)
-
 -- what holds in three rows of three
 module _ (P : ℕ → Type 0) (w p : ℕ) (rim : w + 1 ≤ p) (over : (i : ℕ) → i < 3 → P (p - (w + 1) + i)) (mid : (i : ℕ) → i < 3 → P (p - 1 + i)) (under : (i : ℕ) → i < 3 → P (p + (w + 1) - 2 + i)) where
   -- holds where a neighbour stands
@@ -76,16 +66,8 @@ module _ (P : ℕ → Type 0) (w p : ℕ) (rim : w + 1 ≤ p) (over : (i : ℕ) 
   pub near-each : (q : ℕ) → eight w p q ≡ true → P q
   near-each q y = each_there q (apart_around w p q (eight_apart w p q y))
 
--- the places of a run, one by one
-pub around-more : (n w : ℕ) (a : List ℕ) (from i p : ℕ) → p ≡ plane n 2 a i → ((j : ℕ) → from ≤ j → j < i → (q : ℕ) → eight w (plane n 2 a j) q ≡ true → plane n 5 a q ≡ 0) → ((q : ℕ) → eight w p q ≡ true → plane n 5 a q ≡ 0) →
-    (j : ℕ) → from ≤ j → j < i + 1 → (q : ℕ) → eight w (plane n 2 a j) q ≡ true → plane n 5 a q ≡ 0
-around-more n w a from i p e u v j lo hi q y = elim (ℕ_discrete j i) [
-  | yes x ↦ v q (ap (λ (z : ℕ). eight w z q) (e ∙ ap (plane n 2 a) (sym x)) ∙ y)
-  | no x ↦ u j lo (omega arith) q y
-]
-
 -- neighbours in four directions are neighbours in eight
-pub neighbours_in : (grid : Grid) → (grid.steps ≡ 4) ⊎ (grid.steps ≡ 8) → (p q : ℕ) → q < area_of grid → adjoins grid p q ≡ true → eight grid.w p q ≡ true
-neighbours_in grid ok p q l y =
-    let f = neighbours_complete grid.steps ok grid.h grid.w p q l y in
-    hop-eight grid.h grid.w p f.0 q (step_few grid.steps ok f.0 f.1) f.2
+pub neighbours_in : (grid : Grid) (p q : ℕ) → q < area_of grid → adjoins grid p q ≡ true → eight grid.w p q ≡ true
+neighbours_in grid p q l y =
+    let f = neighbours_complete grid.near grid.h grid.w p q l y in
+    hop-eight grid.h grid.w p f.0 q (step_few grid.near f.0 f.1) f.2

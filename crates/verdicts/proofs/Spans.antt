@@ -1,5 +1,5 @@
 -- A loop over the places of a span of the order, or over any stretch of numbers: what a turn reads, and what a turn adds. Assumes nothing.
-use Prim.Native.Nat.{ℕ, suc, ◌+◌, ◌*◌, ◌≤◌, ◌<◌}
+use Prim.Native.Nat.{ℕ, suc, ◌+◌, ◌-◌, ◌*◌, ◌≤◌, ◌<◌}
 use mathlib.Core.Path.{◌≡◌, ◌∙◌, subst}
 use mathlib.Core.Logic.{◌⊎◌, inl, inr, ⊎_elim}
 use mathlib.Core.List.{List}
@@ -10,6 +10,8 @@ use Rattle.grid.specs.Planes.{plane, end_of}
 use Rattle.grid.proofs.Planes.{plane_read}
 use Rattle.verdicts.specs.declared.large.Span.{Span}
 use Rattle.verdicts.specs.Groups.{Group, Stretch}
+use Rattle.std.specs.List.{slice_range}
+use Rattle.std.proofs.lemmas.List.Edits.{length-between, get_or-between}
 
 -- ---- what a turn adds
 
@@ -54,3 +56,19 @@ span_turn {n} {i} {b = b} few room s len kept lo hi =
     let on : i < n = omega (arith, s.end) in
     let e = plane_read n 2 i (2 * n + i) b (omega arith) ∙ kept i on in
     record { few = few; room = rw len room; low = lo; turn = hi; on = on; is = e; place = rw e (s.places i lo hi) }
+
+-- the places of a span, cut out of the work area
+module _ {n : ℕ} {a : List ℕ} {span : Span} (room : 8 * n ≤ length a) (s : Stretch n a span) where
+  abbrev cut : List ℕ
+  cut = slice_range a (2 * n + span.from) (2 * n + span.to)
+
+  pub places-count : length cut ≡ span.to - span.from
+  places-count = let l = length-between a (2 * n + span.from) (2 * n + span.to) (omega (arith, s.end)) in omega (arith, s.rises)
+
+  pub places-each : (i : ℕ) → i < length cut → get_or cut i 0 ≡ plane n 2 a (span.from + i)
+  places-each i l =
+      let c = places-count in
+      get_or-between a (2 * n + span.from) (2 * n + span.to) i 0 (omega (arith, s.rises)) ∙ plane_read n 2 (span.from + i) (2 * n + span.from + i) a (omega arith)
+
+  pub places-within : (i : ℕ) → i < length cut → get_or cut i 0 < n
+  places-within i l = let c = places-count in rw (places-each i l) (s.places (span.from + i) (omega arith) (omega (arith, s.rises)))

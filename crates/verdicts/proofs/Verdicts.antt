@@ -1,10 +1,10 @@
 -- The verdict on a group, from the votes of its poll. Assumes nothing.
-use Prim.Native.Nat.{ℕ, suc, ◌+◌, ◌-◌, ◌≤◌, ◌<◌}
+use Prim.Native.Nat.{ℕ, suc, ◌+◌, ◌-◌, ◌*◌, ◌≤◌, ◌<◌}
 use mathlib.Core.Path.{◌≡◌, refl, sym, ap, ◌∙◌}
 use mathlib.Core.Logic.{◌⊎◌, inl, inr, ⊎_elim}
 use mathlib.Core.Bool.{Bool, true, false, ◌&&◌}
 use mathlib.Core.List.{List}
-use mathlib.Core.Option.{Option}
+use Rattle.std.specs.Prelude.{Option, Some}
 use native.Mathlib.Decide.{ℕ_discrete}
 use native.Mathlib.Omega.{arith}
 use borrow.Author.Tests.{ne_eqb}
@@ -26,12 +26,11 @@ use Rattle.rules.proofs.Groups.{Grouped, waits, group_verdict, group_rest, group
 use Rattle.grid.specs.declared.Grid.{Grid}
 use Rattle.grid.specs.Planes.{plane, cells_of, end_of}
 use Rattle.grid.proofs.Places.{neighbours_symmetric}
-use Rattle.grid.proofs.Planes.{cells-size, index_is}
+use Rattle.grid.proofs.Planes.{plane_read, cells-size, index_is}
 use Rattle.verdicts.specs.declared.Criteria.{Criteria}
 use Rattle.verdicts.specs.declared.large.Span.{Span}
 use Rattle.verdicts.specs.Steps.{area_of, adjoins}
-use Rattle.verdicts.specs.declared.target.Target.TheVariants.{Index}
-use Rattle.verdicts.specs.Choice.{entry_distance, decision, choice}
+use Rattle.verdicts.specs.Choice.{entry_distance, candidate, number, decision, choice}
 use Rattle.verdicts.specs.Polling.{ballot, Polled, Beside}
 use Rattle.verdicts.specs.Judging.{rule_of, state_of, code, Indexed, large_of, Sound, Judged}
 use Rattle.verdicts.proofs.Choosing.{peak_none, choice_none, choice-is, one_target, decision_one}
@@ -83,7 +82,7 @@ module _ {grid : Grid} (by : Criteria) (palette : List Float) {a : List ℕ} (sh
 
   sym_rule : Symmetric rule.adj
   unfolding rule_of
-  sym_rule = neighbours_symmetric grid.steps sheet.ways grid.w
+  sym_rule = neighbours_symmetric grid.near grid.w
 
   grouped : Grouped rule s group
   unfolding rule_of state_of
@@ -213,7 +212,7 @@ module _ {grid : Grid} (by : Criteria) (palette : List Float) {a : List ℕ} (sh
             (eqb_yes (left (eqb (group x) (group p.0)) (adj p.0 q) p.2)) (right (eqb (group x) (group p.0)) (adj p.0 q) p.2) (left (large rule cells q) (any n (near q)) v)) z
 
         -- all voters have one paint: the verdict is by that index
-        pub agreed_fate : (v : ℕ) → OnePaint grid a (end_of n a t) (end_of n a (suc t)) v → decision (Index (v - 1) (entry_distance palette (plane n 0 a lead - 1) (v - 1))) reach ≡ code (fate (fates rule s) x)
+        pub agreed_fate : (v : ℕ) → OnePaint grid a (end_of n a t) (end_of n a (suc t)) v → number (decision (Some (candidate (v - 1) (entry_distance palette (plane n 0 a lead - 1) (v - 1)))) reach) ≡ code (fate (fates rule s) x)
         unfolding rule_of
         agreed_fate v u =
             let q = u.place in
@@ -222,7 +221,7 @@ module _ {grid : Grid} (by : Criteria) (palette : List Float) {a : List ℕ} (sh
             let index-v : (p : ℕ) → p < n → votes_at p ≡ true → index (at cells p) ≡ v - 1 =
             (λ p lp z. let b = voter_beside p lp z in let e = index_is n a p lp (voter-opaque p lp z) in let f = u.same p lp b.0 b.1 in omega arith) in
             let below : v - 1 < k = rw (index-v q l y) at (index_in q l (voter-opaque q l y)) in
-            ap (λ (o : ℕ). decision (Index (v - 1) (entry_distance palette o (v - 1))) reach) own_is
+            ap (λ (o : ℕ). number (decision (Some (candidate (v - 1) (entry_distance palette o (v - 1)))) reach)) own_is
             ∙ decision_one rule own (v - 1)
             ∙ sym (ap (λ (o : Option ℕ). code (judged rule own o)) (one_target rule cells voters own (v - 1) q l (marked-is q l ∙ y) (λ p lp z. index-v p lp (sym (marked-is p lp) ∙ z)) k below))
             ∙ fate-is
@@ -256,16 +255,44 @@ module _ {grid : Grid} (by : Criteria) (palette : List Float) {a : List ℕ} (sh
               both (sym (voter-is q l) ∙ u) (yes_eqb {m = plane n 0 b q} {n = c + 1} (omega arith)))
 
           -- the verdict is the choice by the counts
-          pub polled_fate : choice (entry_distance palette (plane n 0 a lead - 1)) counts k reach ≡ code (fate (fates rule s) x)
+          pub polled_fate : number (choice (entry_distance palette (plane n 0 a lead - 1)) counts k reach) ≡ code (fate (fates rule s) x)
           unfolding rule_of
           polled_fate =
-              ap (λ (y : ℕ). choice (entry_distance palette y) counts k reach) own_is
+              ap (λ (y : ℕ). number (choice (entry_distance palette y) counts k reach)) own_is
               ∙ choice-is rule cells voters own counts k (λ c lc. tallied c (omega (arith, known.few))) (λ q lq y. index_in q lq (voter-opaque q lq (sym (marked-is q lq) ∙ y)))
               ∙ fate-is
 
           -- a cell that voted decides it
           pub vote_decides : (q : ℕ) → q < n → plane n 5 b q ≡ t + 2 → code (fate (fates rule s) x) ≡ 0 → ⊥
           vote_decides q l e = voter_decides q l (voter-is q l ∙ yes_eqb e)
+
+    -- ---- as the code reads it
+
+    pub number-read : get_or a (6 * n + t) 0 ≡ plane n 6 a t
+    number-read = plane_read n 6 t (6 * n + t) a refl
+
+    module _ {from : ℕ} (start : from ≡ end_of n a t) where
+      -- the first place, as it is read
+      abbrev seen_first : ℕ
+      seen_first = get_or a (2 * n + from) 0
+
+      first-read : seen_first ≡ lead
+      first-read = plane_read n 2 from (2 * n + from) a refl ∙ ap (plane n 2 a) start
+
+      pub first_in : seen_first < n
+      first_in = rw first-read lead_in
+
+      pub large-read : get_or a (5 * n + seen_first) 0 ≡ plane n 5 a lead
+      large-read = plane_read n 5 seen_first (5 * n + seen_first) a refl ∙ ap (plane n 5 a) first-read
+
+      pub paint-read : get_or a seen_first 0 ≡ plane n 0 a lead
+      paint-read = plane_read n 0 seen_first seen_first a (omega arith) ∙ ap (plane n 0 a) first-read
+
+      pub paint_some : 1 ≤ get_or a seen_first 0
+      paint_some = rw paint-read (sheet.shown lead lead_in (λ z. let l = lead-label in omega arith))
+
+      pub paint_most : Indexed n k a → get_or a seen_first 0 ≤ k
+      paint_most known = rw paint-read (known.below lead lead_in)
 
     -- ---- as the code has it
 
@@ -279,7 +306,7 @@ module _ {grid : Grid} (by : Criteria) (palette : List Float) {a : List ℕ} (sh
     module _ (span : Span) (ends : (span.from ≡ end_of n a t) × (span.to ≡ end_of n a (suc t))) (free : plane n 6 a t ≡ 0) (little : plane n 5 a lead ≡ 0) (known : Indexed n k a) where
       -- one paint is all that large neighbours have
       pub judged_agreed : {v : ℕ} → OnePaint grid a span.from span.to v →
-          {paint : ℕ} → paint ≡ plane n 0 a lead → {r : ℕ} → r ≡ decision (Index (v - 1) (entry_distance palette (paint - 1) (v - 1))) reach → Judged rule n t a a r
+          {paint : ℕ} → paint ≡ plane n 0 a lead → {r : ℕ} → r ≡ number (decision (Some (candidate (v - 1) (entry_distance palette (paint - 1) (v - 1)))) reach) → Judged rule n t a a r
       judged_agreed {v} u ep e =
           record {
             kept = kept_none n a;
@@ -293,7 +320,7 @@ module _ {grid : Grid} (by : Criteria) (palette : List Float) {a : List ℕ} (sh
       module _ (fresh : (q : ℕ) → q < n → plane n 5 a q ≡ t + 2 → ⊥) where
         -- they are polled
         pub judged_polled : {b counts : List ℕ} → Polled n (t + 2) (Beside grid a span.from span.to) a b counts →
-            {paint : ℕ} → paint ≡ plane n 0 a lead → {r : ℕ} → r ≡ choice (entry_distance palette (paint - 1)) counts k reach → Judged rule n t a b r
+            {paint : ℕ} → paint ≡ plane n 0 a lead → {r : ℕ} → r ≡ number (choice (entry_distance palette (paint - 1)) counts k reach) → Judged rule n t a b r
         unfolding large_of
         judged_polled {b} {counts} polled ep {r} e =
             let ne : t + 2 ≡ 0 → ⊥ = (λ x. omega arith) in
@@ -313,8 +340,9 @@ module _ {grid : Grid} (by : Criteria) (palette : List Float) {a : List ℕ} (sh
 
         -- no neighbour is large: the poll would change nothing
         pub judged_silent : ((i : ℕ) → span.from ≤ i → i < span.to → (q : ℕ) → eight grid.w (plane n 2 a i) q ≡ true → plane n 5 a q ≡ 0) → Judged rule n t a a 0
+        unfolding number
         judged_silent none =
             judged_polled
             (polled_still n (t + 2) (λ x. omega arith) a (replicate 256 0) (tally_new n (t + 2) a fresh)
-            (λ q l b large. absurd (large (none b.0 b.1 b.2 q (neighbours_in grid sheet.ways (plane n 2 a b.0) q l b.3)))))
-            refl (choice_none _ (replicate 256 0) k 0 reach (peak_none k known.few) refl)
+            (λ q l b large. absurd (large (none b.0 b.1 b.2 q (neighbours_in grid (plane n 2 a b.0) q l b.3)))))
+            refl (ap number (choice_none _ (replicate 256 0) k 0 reach (peak_none k known.few) refl))

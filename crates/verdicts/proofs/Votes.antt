@@ -4,7 +4,7 @@ use mathlib.Core.Path.{◌≡◌, refl, sym, ap, ◌∙◌}
 use mathlib.Core.Logic.{◌⊎◌, inl, inr, ⊎_elim}
 use mathlib.Core.Bool.{true, false}
 use mathlib.Core.List.{List}
-use mathlib.Core.Option.{Option, none, some}
+use Rattle.std.specs.Prelude.{Option, None, Some}
 use native.Mathlib.Nat.{not-suc-le-zero}
 use native.Mathlib.Decide.{ℕ_discrete}
 use native.Mathlib.Omega.{arith}
@@ -16,15 +16,30 @@ use Rattle.base.specs.Places.{count}
 use Rattle.base.proofs.Counting.{clash, left, eqb_yes, yes_eqb, count_same, count_insert, count_le, count_none}
 use Rattle.grid.specs.declared.Grid.{Grid}
 use Rattle.grid.specs.Planes.{plane}
+use Rattle.grid.specs.Steps.{steps_of}
 use Rattle.grid.proofs.Places.{hop, some_inj, none_some, neighbours-sound, neighbours_complete}
-use Rattle.grid.proofs.Planes.{plane-same, plane_else, plane_other}
+use Rattle.grid.proofs.Planes.{plane_read, plane-same, plane_else, plane_other}
 use Rattle.verdicts.specs.Steps.{area_of, adjoins}
+use Rattle.verdicts.specs.Groups.{CanVote}
 use Rattle.verdicts.specs.Polling.{ballot, Tallied, MarksOnly, Polled, Beside}
 use Rattle.verdicts.proofs.Spans.{within_more, more_within}
 
 -- a count is at most the number of cells
 pub tally_le : {n m : ℕ} {work counts : List ℕ} → Tallied n work m counts → (c : ℕ) → c < 256 → get_or counts c 0 ≤ n
 tally_le {n = n} t c l = rw (t.votes c l) (count_le n _)
+
+-- what is read at a large cell: the paint of an index below 256
+pub record Voter (n q : ℕ) (a : List ℕ) : Type 0 where
+  pub large : plane n 5 a q ≡ 0 → ⊥
+  pub is : get_or a q 0 ≡ plane n 0 a q
+  pub some : 1 ≤ get_or a q 0
+  pub most : get_or a q 0 ≤ 256
+
+pub voter : {n q : ℕ} {a : List ℕ} → CanVote n a → q < n → (get_or a (5 * n + q) 0 ≡ 0 → ⊥) → Voter n q a
+voter {n} {q} {a} can l z =
+    let large : plane n 5 a q ≡ 0 → ⊥ = (λ e. z (plane_read n 5 q (5 * n + q) a refl ∙ e)) in
+    let is : get_or a q 0 ≡ plane n 0 a q = plane_read n 0 q q a (omega arith) in
+    record { large = large; is = is; some = rw is (can.large q l large); most = rw is (can.paint q l) }
 
 -- ---- what a poll keeps
 
@@ -147,43 +162,43 @@ module _ (n m : ℕ) (nonzero : m ≡ 0 → ⊥) where
 
   -- a step finds nobody, or a cell that is asked
   module _ {o : Option ℕ} {a counts : List ℕ} where
-    pub polled_off : o ≡ none → Tallied n a m counts → Polled n m (λ x. o ≡ some x) a a counts
+    pub polled_off : o ≡ None → Tallied n a m counts → Polled n m (λ x. o ≡ Some x) a a counts
     polled_off e t = polled_same (λ q h z. absurd z) (λ q h z. none_some (sym e ∙ z)) (polled_none a counts t)
 
-    pub polled_on : {b : List ℕ} (q : ℕ) → o ≡ some q → Polled n m (λ x. x ≡ q) a b counts → Polled n m (λ x. o ≡ some x) a b counts
-    polled_on q e u = polled_same (λ x h z. e ∙ ap some (sym z)) (λ x h z. some_inj (sym z ∙ e)) u
+    pub polled_on : {b : List ℕ} (q : ℕ) → o ≡ Some q → Polled n m (λ x. x ≡ q) a b counts → Polled n m (λ x. o ≡ Some x) a b counts
+    polled_on q e u = polled_same (λ x h z. e ∙ ap (λ (x : ℕ). Some x) (sym z)) (λ x h z. some_inj (sym z ∙ e)) u
 
 -- ---- the neighbours of a place, step by step
 
 -- one of the first k steps from p leads to q
 abbrev pub Reached : Grid → ℕ → ℕ → ℕ → Type 0
-Reached grid p k q = (i : ℕ) × (i < k) × (hop grid.h grid.w p i ≡ some q)
+Reached grid p k q = (i : ℕ) × (i < k) × (hop grid.h grid.w p i ≡ Some q)
 
 module _ (grid : Grid) (p k : ℕ) {q : ℕ} where
   -- one step more
-  pub reached_more : Reached grid p (k + 1) q → Reached grid p k q ⊎ (hop grid.h grid.w p k ≡ some q)
+  pub reached_more : Reached grid p (k + 1) q → Reached grid p k q ⊎ (hop grid.h grid.w p k ≡ Some q)
   reached_more z = elim (ℕ_discrete z.0 k) [ yes e ↦ inr (rw e at z.2) | no d ↦ inl (z.0, omega (arith, z.1), z.2) ]
 
-  pub more_reached : Reached grid p k q ⊎ (hop grid.h grid.w p k ≡ some q) → Reached grid p (k + 1) q
+  pub more_reached : Reached grid p k q ⊎ (hop grid.h grid.w p k ≡ Some q) → Reached grid p (k + 1) q
   more_reached = ⊎_elim (λ z. (z.0, omega (arith, z.1), z.2)) (λ z. (k, omega arith, z))
 
   -- all steps lead to the neighbours
-  pub reached_all : (grid.steps ≡ 4) ⊎ (grid.steps ≡ 8) → k ≤ grid.steps → Reached grid p k q → adjoins grid p q ≡ true
-  reached_all ok l z = neighbours-sound grid.steps ok grid.h grid.w p z.0 q (omega (arith, z.1)) z.2
+  pub reached_all : k ≤ steps_of grid.near → Reached grid p k q → adjoins grid p q ≡ true
+  reached_all l z = neighbours-sound grid.near grid.h grid.w p z.0 q (omega (arith, z.1)) z.2
 
-  pub all_reached : (grid.steps ≡ 4) ⊎ (grid.steps ≡ 8) → grid.steps ≤ k → q < area_of grid → adjoins grid p q ≡ true → Reached grid p k q
-  all_reached ok l b y = let z = neighbours_complete grid.steps ok grid.h grid.w p q b y in (z.0, omega (arith, z.1), z.2)
+  pub all_reached : steps_of grid.near ≤ k → q < area_of grid → adjoins grid p q ≡ true → Reached grid p k q
+  all_reached l b y = let z = neighbours_complete grid.near grid.h grid.w p q b y in (z.0, omega (arith, z.1), z.2)
 
 module _ (grid : Grid) (m p : ℕ) (nonzero : m ≡ 0 → ⊥) where
   pub reach-start : (a counts : List ℕ) → Tallied (area_of grid) a m counts → Polled (area_of grid) m (Reached grid p 0) a a counts
   reach-start a counts t =
       polled_same (area_of grid) m nonzero (λ q l z. absurd z) (λ q l z. absurd (not-suc-le-zero z.1)) (polled_none (area_of grid) m nonzero a counts t)
 
-  pub reach-on : {a b c : List ℕ} (counts counts' : List ℕ) (k : ℕ) → Polled (area_of grid) m (Reached grid p k) a b counts → Polled (area_of grid) m (λ q. hop grid.h grid.w p k ≡ some q) b c counts' → Polled (area_of grid) m (Reached grid p (k + 1)) a c counts'
+  pub reach-on : {a b c : List ℕ} (counts counts' : List ℕ) (k : ℕ) → Polled (area_of grid) m (Reached grid p k) a b counts → Polled (area_of grid) m (λ q. hop grid.h grid.w p k ≡ Some q) b c counts' → Polled (area_of grid) m (Reached grid p (k + 1)) a c counts'
   reach-on counts counts' k u v = polled_same (area_of grid) m nonzero (λ q l. more_reached grid p k) (λ q l. reached_more grid p k) (polled_and (area_of grid) m nonzero counts counts' u v)
 
-  pub reach_all : {a b counts : List ℕ} (k : ℕ) → (grid.steps ≡ 4) ⊎ (grid.steps ≡ 8) → grid.steps ≡ k → Polled (area_of grid) m (Reached grid p k) a b counts → Polled (area_of grid) m (λ q. adjoins grid p q ≡ true) a b counts
-  reach_all k ok e u = polled_same (area_of grid) m nonzero (λ q l. reached_all grid p k ok (omega arith)) (λ q l. all_reached grid p k ok (omega arith) l) u
+  pub reach_all : {a b counts : List ℕ} (k : ℕ) → steps_of grid.near ≡ k → Polled (area_of grid) m (Reached grid p k) a b counts → Polled (area_of grid) m (λ q. adjoins grid p q ≡ true) a b counts
+  reach_all k e u = polled_same (area_of grid) m nonzero (λ q l. reached_all grid p k (omega arith)) (λ q l. all_reached grid p k (omega arith) l) u
 
 -- ---- the neighbours of the places of a run, place by place
 

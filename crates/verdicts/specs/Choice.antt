@@ -1,10 +1,11 @@
 -- Which index a region takes, from the votes that each index has. Definitions only. Assumes nothing.
-use Rattle.std.specs.Prelude.{ℕ, zero, suc, ◌+◌, true, cond, List, eqb, Float, get_or}
+use Rattle.std.specs.Prelude.{ℕ, zero, suc, ◌+◌, Bool, true, cond, List, eqb, Float, get_or, Option, Some, None}
 use Rattle.std.specs.Float.Ieee.{lt}
 use Rattle.base.specs.Places.{greatest}
 use Rattle.color.specs.Lab.{entry, distance}
-use Rattle.verdicts.specs.declared.target.Target.{Target}
-use Rattle.verdicts.specs.declared.target.Target.TheVariants.{Nothing, Index}
+use Rattle.verdicts.specs.declared.target.Candidate.{Candidate}
+use Rattle.verdicts.specs.declared.target.Verdict.{Verdict}
+use Rattle.verdicts.specs.declared.target.Verdict.TheVariants.{Stays, Frozen, Takes}
 
 -- the distance of the palette entries i and j
 unfoldable pub entry_distance : List Float → ℕ → ℕ → Float
@@ -14,23 +15,37 @@ entry_distance palette i j = distance (entry palette i) (entry palette j)
 unfoldable pub peak : List ℕ → ℕ → ℕ
 peak counts k = greatest k (λ c. true) (λ c. get_or counts c 0)
 
--- a candidate c at the distance d takes the place of an earlier one if it is nearer
-unfoldable pub nearer : Target → ℕ → Float → Target
-nearer Nothing c d = Index c d
-nearer (Index b e) c d = cond (lt d e) (Index c d) (Index b e)
+-- the index c at the distance d
+unfoldable pub candidate : ℕ → Float → Candidate
+candidate c d = record { index = c; distance = d }
+
+-- a candidate takes the place of an earlier one if it is nearer
+unfoldable pub nearer : Option Candidate → Candidate → Candidate
+nearer None next = next
+nearer (Some b) next = cond (lt next.distance b.distance) next b
 
 -- of the indices below k with m votes the nearest, the lowest of several; far gives their distances
-unfoldable pub nearest : (ℕ → Float) → List ℕ → ℕ → ℕ → Target
-nearest far counts m zero = Nothing
+unfoldable pub nearest : (ℕ → Float) → List ℕ → ℕ → ℕ → Option Candidate
+nearest far counts m zero = None
 nearest far counts m (suc c) =
-    cond (eqb (get_or counts c 0) m) (nearer (nearest far counts m c) c (far c)) (nearest far counts m c)
+    cond (eqb (get_or counts c 0) m) (Some (nearer (nearest far counts m c) (candidate c (far c)))) (nearest far counts m c)
 
--- what a target gives a region, as the number that the work area holds: 0 it stays, 1 it is frozen, c + 2 it takes the index c
-unfoldable pub decision : Target → Float → ℕ
-decision Nothing reach = 0
-decision (Index c d) reach = cond (lt d reach) (c + 2) 1
+-- a verdict as the number that the work area holds: 0 it stays, 1 it is frozen, c + 2 it takes the index c
+unfoldable pub number : Verdict → ℕ
+number Stays = 0
+number Frozen = 1
+number (Takes c) = c + 2
+
+-- a target c gives a region its index, if it is near enough, else the region is frozen
+unfoldable pub verdict_on : ℕ → Bool → Verdict
+verdict_on c near = cond near (Takes c) Frozen
+
+-- what a target gives a region
+unfoldable pub decision : Option Candidate → Float → Verdict
+decision None reach = Stays
+decision (Some b) reach = verdict_on b.index (lt b.distance reach)
 
 -- the same from the votes: with none the region stays
-unfoldable pub choice : (ℕ → Float) → List ℕ → ℕ → Float → ℕ
+unfoldable pub choice : (ℕ → Float) → List ℕ → ℕ → Float → Verdict
 choice far counts k reach =
-    cond (eqb (peak counts k) 0) 0 (decision (nearest far counts (peak counts k) k) reach)
+    cond (eqb (peak counts k) 0) Stays (decision (nearest far counts (peak counts k) k) reach)

@@ -1,11 +1,16 @@
 -- The work area between the passes of a cleaning: a sheet, its places in groups, and which of them are large. Definitions only. Assumes nothing.
 -- Planes: 0 paint; 1 label, 2 order, 3 end of region by label, of the regions at the start; 4 frozen; 5 large, 0 for no and otherwise the mark of the last vote;
 -- 6 what became of a region by label, 0 nothing, 1 frozen, c + 2 repainted into c; 7 the regions that became large, by label, in that order.
-use Rattle.std.specs.Prelude.{ℕ, suc, ◌*◌, ◌≤◌, ◌<◌, ◌≡◌, ◌⊎◌, List, length}
+use Rattle.std.specs.Prelude.{ℕ, suc, ◌*◌, ◌≤◌, ◌<◌, ◌≡◌, List, length}
 use Rattle.grid.specs.declared.Grid.{Grid}
 use Rattle.grid.specs.Planes.{plane, end_of}
 use Rattle.verdicts.specs.declared.large.Span.{Span}
 use Rattle.verdicts.specs.Steps.{area_of}
+
+-- the work area has its eight planes, for at most as many cells as a padded sheet has
+pub record Planes (n : ℕ) (work : List ℕ) : Type 0 where
+  pub few : n ≤ 264196
+  pub room : 8 * n ≤ length work
 
 -- the places with the label at + 1 stand in the order from end_of at on and before end_of (at + 1)
 pub record Group (n : ℕ) (work : List ℕ) (at : ℕ) : Type 0 where
@@ -25,7 +30,6 @@ pub record Stretch (n : ℕ) (work : List ℕ) (span : Span) : Type 0 where
 pub record GroupedSheet (grid : Grid) (work : List ℕ) : Type 0 where
   pub rows : grid.h ≤ 514
   pub cols : grid.w ≤ 514
-  pub ways : (grid.steps ≡ 4) ⊎ (grid.steps ≡ 8)
   pub room : 8 * area_of grid ≤ length work
   pub paint : (q : ℕ) → q < area_of grid → plane (area_of grid) 0 work q ≤ 256
   pub shown : (q : ℕ) → q < area_of grid → (plane (area_of grid) 1 work q ≡ 0 → ⊥) → 1 ≤ plane (area_of grid) 0 work q

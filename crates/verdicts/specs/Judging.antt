@@ -26,7 +26,7 @@ rule_of grid by palette =
 unfoldable pub state_of : ℕ → List ℕ → State
 state_of n work = record { cells = cells_of n work; frozen = table n (λ p. not (eqb (plane n 4 work p) 0)) }
 
--- a verdict as the number that plane 6 holds: 0 stay, 1 freeze, c + 2 merge into c
+-- a verdict of the rules as the number that plane 6 holds: 0 stay, 1 freeze, c + 2 merge into c
 unfoldable pub code : Verdict → ℕ
 code stay = 0
 code (merge c d) = c + 2

@@ -1,6 +1,5 @@
 -- A grid, and a step on it, as the functions on regions take them. Definitions only. Assumes nothing.
-use Rattle.std.specs.Prelude.{ℕ, ◌*◌, ◌/◌, ◌%◌, ◌<◌, ◌≡◌, Bool, false}
-use Rattle.std.proofs.Math.Option.{Option}
+use Rattle.std.specs.Prelude.{ℕ, ◌*◌, ◌/◌, ◌%◌, ◌<◌, ◌≡◌, Bool, false, Option}
 use Rattle.rules.specs.Grid.{step_to}
 use Rattle.grid.specs.declared.Grid.{Grid}
 use Rattle.grid.specs.declared.Move.{Move}
@@ -12,7 +11,7 @@ area_of grid = grid.h * grid.w
 
 -- q is a neighbour of p
 abbrev pub adjoins : Grid → ℕ → ℕ → Bool
-adjoins grid = neighbours grid.steps grid.w
+adjoins grid = neighbours grid.near grid.w
 
 -- where a step leads
 abbrev pub landing : Grid → Move → Option ℕ

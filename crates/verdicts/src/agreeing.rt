@@ -1,79 +1,81 @@
 // Whether all large cells beside a region have one paint: that is its target then, and no votes need be counted.
 ghost use Rattle.std.specs.Prelude.{◌≡◌, ◌-◌, ◌<◌};
+ghost use Rattle.grid.specs.Steps.{steps_of};
 ghost use Rattle.verdicts.specs.Steps.{area_of, landing, OneStep};
 ghost use Rattle.verdicts.specs.Groups.{Stretch, GroupedSheet};
 ghost use Rattle.verdicts.specs.Agreeing.{joined, asked, asked_beside, asked_around, one_paint};
 
 use crate::large::Span;
-use crate::step_count;
-use grid::{Grid, Move, OFFSETS8, Step, on_edge, reached};
+use grid::{Grid, Move, OFFSETS8, on_edge, reached};
 
-// More than every paint: the cells asked so far have several.
-const SEVERAL: u32 = 257;
+// What the cells asked so far have: none is large, all large ones have one paint, or they have several.
+#[derive(Clone, Copy, Debug, PartialEq, Eq)]
+enum Agreement {
+    Silent,
+    One(u32),
+    Several,
+}
 
-// What the cells asked so far have, 0 where none is large, with one more of this paint.
-fn join(so_far: u32, paint: u32) -> u32
+// The same with one more large cell, of this paint.
+#[tactic(auto, unfolding(crate::specs::Agreeing::joined))]
+fn join(so_far: Agreement, paint: u32) -> Agreement
     ensures { result ≡ joined so_far paint }
 {
-    if so_far == 0 {
-        return paint;
+    match so_far {
+        Agreement::Silent => Agreement::One(paint),
+        Agreement::One(other) if other == paint => so_far,
+        _ => Agreement::Several,
     }
-    let same = so_far == paint;
-    if same {
-        return paint;
-    }
-    SEVERAL
 }
 
 // The cell that a step from p finds is asked.
-fn ask_step(work: &[u32], grid: Grid, step: Move, so_far: u32) -> u32
+fn ask_step(work: &[u32], grid: Grid, step: Move, so_far: Agreement) -> Agreement
     requires { GroupedSheet grid work.now × OneStep grid step }
     ensures { result ≡ asked (area_of grid) work.now (landing grid step) so_far }
 {
     let n = grid.h * grid.w;
-    let Step::Cell(q) = reached(step.p, step.dy, step.dx, step.border, grid.h, grid.w) else {
-        return so_far;
-    };
-    if work[5 * n + q] == 0 {
-        return so_far;
+    match reached(step.p, step.dy, step.dx, step.border, grid.h, grid.w) {
+        Some(q) if work[5 * n + q] != 0 => join(so_far, work[q]),
+        _ => so_far,
     }
-    join(so_far, work[q])
 }
 
 // The neighbours of the cell p are asked.
-fn ask_beside(work: &[u32], grid: Grid, p: usize, so_far: u32) -> u32
+fn ask_beside(work: &[u32], grid: Grid, p: usize, so_far: Agreement) -> Agreement
     requires { GroupedSheet grid work.now × (p < area_of grid) }
-    ensures { result ≡ asked_beside grid work.now p grid.steps so_far }
+    ensures { result ≡ asked_beside grid work.now p (steps_of grid.near) so_far }
 {
     let border = on_edge(p, grid.h, grid.w);
-    let offsets = OFFSETS8;
-    let steps = step_count(grid);
+    let steps = grid.near.steps();
     let mut found = so_far;
-    for s in 0..8 {
+    for (s, offset) in OFFSETS8.iter().enumerate() {
         if s == steps {
             return found;
         }
-        let o = offsets[s];
-        let dy = o[0];
-        let dx = o[1];
+        let [dy, dx] = *offset;
         found = ask_step(work, grid, Move { p, dy, dx, border }, found);
+        if let Agreement::Several = found {
+            return found;
+        }
     }
     found
 }
 
-// The paint of all large cells beside the places of a span; 0 if there is none, or several.
-pub fn agreed(work: &[u32], grid: Grid, span: Span) -> u32
+// The paint of all large cells beside the places of a span, if they have one.
+#[tactic(auto, unfolding(crate::specs::Agreeing::one_paint))]
+pub fn agreed(work: &[u32], grid: Grid, span: Span) -> Option<u32>
     requires { GroupedSheet grid work.now × Stretch (area_of grid) work.now span }
     ensures { result ≡ one_paint (asked_around grid work.now span.from (span.to - span.from)) }
 {
-    let n = grid.h * grid.w;
-    let mut found = 0;
-    for i in span.from..span.to {
-        let p = work[2 * n + i] as usize;
-        found = ask_beside(work, grid, p, found);
+    let mut found = Agreement::Silent;
+    for p in span.places(work, grid.h * grid.w) {
+        found = ask_beside(work, grid, *p as usize, found);
+        if let Agreement::Several = found {
+            return None;
+        }
     }
-    if found == SEVERAL {
-        return 0;
+    match found {
+        Agreement::One(paint) => Some(paint),
+        _ => None,
     }
-    found
 }

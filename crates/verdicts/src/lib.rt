@@ -3,17 +3,19 @@
 
 mod agreeing;
 mod large;
+pub mod near;
 pub mod target;
 mod voting;
 
-ghost use Rattle.std.specs.Prelude.{◌≡◌, ◌⊎◌, length};
+ghost use Rattle.std.specs.Prelude.{◌≡◌, length};
 ghost use Rattle.verdicts.specs.Steps.{area_of};
 ghost use Rattle.verdicts.specs.Groups.{Group, GroupedSheet};
+ghost use Rattle.verdicts.specs.Choice.{number};
 ghost use Rattle.verdicts.specs.Judging.{rule_of, Indexed, Unmarked, Sound, Judged};
 
 use crate::agreeing::agreed;
 use crate::large::large_around;
-use crate::target::{choice, only_choice};
+use crate::target::{Verdict, choice, only_choice};
 use crate::voting::poll;
 use grid::Grid;
 pub use large::{Span, region_size, region_span};
@@ -26,45 +28,42 @@ pub struct Criteria {
     pub max_delta: f64,
 }
 
-// How many of the eight steps lead from a cell to its neighbours. By the test the compiler sees that it is 4 or 8.
-pub fn step_count(grid: Grid) -> usize
-    requires { (grid.steps ≡ 4) ⊎ (grid.steps ≡ 8) }
-    ensures { result ≡ grid.steps }
-{
-    if grid.steps == 4 {
-        return 4;
-    }
-    8
+// What regions are judged by: the grid, the palette and the criteria.
+#[derive(Clone, Copy)]
+pub struct Judge<'a> {
+    pub grid: Grid,
+    pub palette: &'a [f64],
+    pub by: Criteria,
+    pub ghost whole: { length palette.now ≡ 768 },
 }
 
-// The verdict on the region with the label at + 1: 0 it stays, 1 it is frozen, c + 2 it takes the index c.
-pub fn verdict(work: &mut [u32], grid: Grid, palette: &[f64], by: Criteria, at: usize) -> u32
-    requires grouped_sheet { GroupedSheet grid work.old × Group (area_of grid) work.old at }
-    requires indexed { Indexed (area_of grid) by.k work.old × (length palette.now ≡ 768) }
-    requires sound { Sound (rule_of grid by palette.now) (area_of grid) work.old × Unmarked (area_of grid) work.old at }
-    ensures { Judged (rule_of grid by palette.now) (area_of grid) at work.old work.new result }
-{
-    let n = grid.h * grid.w;
-    let decided = work[6 * n + at] != 0;
-    if decided {
-        return 0;
+impl Judge<'_> {
+    // The verdict on the region with the label at + 1. Votes are marked in plane 5.
+    pub fn verdict(self, work: &mut [u32], at: usize) -> Verdict
+        requires grouped_sheet { GroupedSheet self.grid work.old × Group (area_of self.grid) work.old at }
+        requires indexed { Indexed (area_of self.grid) self.by.k work.old }
+        requires sound { Sound (rule_of self.grid self.by self.palette.now) (area_of self.grid) work.old × Unmarked (area_of self.grid) work.old at }
+        ensures { Judged (rule_of self.entry.grid self.entry.by self.entry.palette.now) (area_of self.entry.grid) at work.old work.new (number result) }
+    {
+        let n = self.grid.h * self.grid.w;
+        let decided = work[6 * n + at] != 0;
+        if decided {
+            return Verdict::Stays;
+        }
+        let span = region_span(work, n, at);
+        let first = work[2 * n + span.from] as usize;
+        let large = work[5 * n + first] != 0;
+        if large || !large_around(work, n, self.grid.w, span) {
+            return Verdict::Stays;
+        }
+        let own = work[first] as usize - 1;
+        if let Some(paint) = agreed(work, self.grid, span) {
+            let c = paint as usize - 1;
+            return only_choice(self, own, c);
+        }
+        let mark = at as u32 + 2;
+        let mut counts = [0u32; 256];
+        poll(work, self.grid, span, mark, &mut counts);
+        choice(self, &counts, own)
     }
-    let span = region_span(work, n, at);
-    let first = work[2 * n + span.from] as usize;
-    if work[5 * n + first] != 0 {
-        return 0;
-    }
-    if !large_around(work, n, grid.w, span) {
-        return 0;
-    }
-    let own = work[first] as usize - 1;
-    let voted = agreed(work, grid, span) as usize;
-    if voted != 0 {
-        let c = voted - 1;
-        return only_choice(palette, own, c, by.max_delta);
-    }
-    let mark = at as u32 + 2;
-    let mut counts = [0u32; 256];
-    poll(work, grid, span, mark, &mut counts);
-    choice(&counts, palette, by.k, own, by.max_delta)
 }

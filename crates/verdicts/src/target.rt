@@ -1,15 +1,37 @@
 // Which index a region takes, from the votes that each index has.
-ghost use Rattle.std.specs.Prelude.{◌≡◌, cond, ◌+◌, ◌≤◌, ◌<◌, length};
-ghost use Rattle.verdicts.specs.Choice.{entry_distance, peak, nearer, nearest, decision, choice};
-ghost use Rattle.verdicts.specs.declared.target.Target.TheVariants.{Index};
+ghost use Rattle.std.specs.Prelude.{◌≡◌, ◌≤◌, ◌<◌};
+ghost use Rattle.verdicts.specs.Choice.{entry_distance, candidate, peak, nearer, nearest, verdict_on, number, decision, choice};
 
+use crate::Judge;
 use color::cielab::{closer_than, distance, entry};
 
-// The index that a region may take, and its distance from the region's own.
+// An index that a region may take, and its distance from the region's own.
 #[derive(Clone, Copy)]
-pub enum Target {
-    Nothing,
-    Index(usize, f64),
+pub struct Candidate {
+    pub index: usize,
+    pub distance: f64,
+}
+
+// What becomes of a region: it stays, is frozen, or takes an index.
+#[derive(Clone, Copy, Debug, PartialEq, Eq)]
+pub enum Verdict {
+    Stays,
+    Frozen,
+    Takes(u8),
+}
+
+impl Verdict {
+    // The number that the work area holds for it: 0 it stays, 1 it is frozen, c + 2 it takes the index c.
+    #[tactic(auto, unfolding(crate::specs::Choice::number))]
+    pub fn code(self) -> u32
+        ensures { result ≡ number self }
+    {
+        match self {
+            Verdict::Stays => 0,
+            Verdict::Frozen => 1,
+            Verdict::Takes(c) => u32::from(c) + 2,
+        }
+    }
 }
 
 // The most votes that an index below k has.
@@ -17,74 +39,78 @@ fn most(counts: &[u32; 256], k: usize) -> u32
     requires { k ≤ 256 }
     ensures { result ≡ peak counts.now k }
 {
-    let mut best: u32 = 0;
-    for c in 0..k {
-        if best < counts[c] {
-            best = counts[c];
-        }
+    let mut best = 0;
+    for votes in &counts[..k] {
+        best = u32::max(best, *votes);
     }
     best
 }
 
 // A candidate takes the place of an earlier one if it is nearer.
-fn nearer(t: Target, c: usize, d: f64) -> Target
-    ensures { result ≡ nearer t c d }
+#[tactic(auto, unfolding(crate::specs::Choice::nearer))]
+fn nearer(best: Option<Candidate>, next: Candidate) -> Candidate
+    ensures { result ≡ nearer best next }
 {
-    let Target::Index(b, e) = t else {
-        return Target::Index(c, d);
+    let Some(earlier) = best else {
+        return next;
     };
-    if d < e {
-        return Target::Index(c, d);
-    }
-    Target::Index(b, e)
+    let closer = next.distance < earlier.distance;
+    if closer { next } else { earlier }
 }
 
-// Of the indices below k with m votes the nearest to `own`, the lowest of several.
-fn nearest(counts: &[u32; 256], m: u32, palette: &[f64], k: usize, own: usize) -> Target
-    requires { (k ≤ 256) × (own < k) × (length palette.now ≡ 768) }
-    ensures { result ≡ nearest (entry_distance palette.now own) counts.now m k }
+// Of the indices in use with m votes the nearest to `own`, the lowest of several.
+fn nearest(judge: Judge, counts: &[u32; 256], m: u32, own: usize) -> Option<Candidate>
+    requires { (judge.by.k ≤ 256) × (own < judge.by.k) }
+    ensures { result ≡ nearest (entry_distance judge.entry.palette.now own) counts.now m judge.entry.by.k }
 {
-    let from = entry(palette, own);
-    let mut best = Target::Nothing;
-    for c in 0..k {
-        if counts[c] == m {
-            best = nearer(best, c, distance(from, entry(palette, c)));
+    let from = entry(judge.palette, own);
+    let mut best = None;
+    for (index, votes) in counts[..judge.by.k].iter().enumerate() {
+        if *votes == m {
+            let distance = distance(from, entry(judge.palette, index));
+            best = Some(nearer(best, Candidate { index, distance }));
         }
     }
     best
 }
 
-// What a target c gives a region: c + 2 it takes the index c, if that is near enough, else 1, it is frozen.
-fn decide(c: usize, near: bool) -> u32
+// A region takes its target c if that is near enough, else it is frozen.
+#[tactic(auto, unfolding(crate::specs::Choice::verdict_on))]
+fn decide(c: usize, near: bool) -> Verdict
     requires { c < 256 }
-    ensures { result ≡ cond near (c + 2) 1 }
+    ensures { result ≡ verdict_on c near }
 {
     if near {
-        return c as u32 + 2;
+        Verdict::Takes(c as u8)
+    } else {
+        Verdict::Frozen
     }
-    1
 }
 
 // What becomes of a region of the index `own` whose votes are all for c.
-pub fn only_choice(palette: &[f64], own: usize, c: usize, max_delta: f64) -> u32
-    requires { (own < 256) × (c < 256) × (length palette.now ≡ 768) }
-    ensures { result ≡ decision (Index c (entry_distance palette.now own c)) max_delta }
+pub fn only_choice(judge: Judge, own: usize, c: usize) -> Verdict
+    requires { (own < 256) × (c < 256) }
+    ensures { result ≡ decision (Some (candidate c (entry_distance judge.entry.palette.now own c))) judge.entry.by.max_delta }
 {
-    let near = closer_than(entry(palette, own), entry(palette, c), max_delta);
+    let near = closer_than(
+        entry(judge.palette, own),
+        entry(judge.palette, c),
+        judge.by.max_delta,
+    );
     decide(c, near)
 }
 
-// What becomes of a region of the index `own` with these votes: 0 it stays, 1 it is frozen, c + 2 it takes the index c.
-pub fn choice(counts: &[u32; 256], palette: &[f64], k: usize, own: usize, max_delta: f64) -> u32
-    requires { (k ≤ 256) × (own < k) × (length palette.now ≡ 768) }
-    ensures { result ≡ choice (entry_distance palette.now own) counts.now k max_delta }
+// What becomes of a region of the index `own` with these votes.
+pub fn choice(judge: Judge, counts: &[u32; 256], own: usize) -> Verdict
+    requires { (judge.by.k ≤ 256) × (own < judge.by.k) }
+    ensures { result ≡ choice (entry_distance judge.entry.palette.now own) counts.now judge.entry.by.k judge.entry.by.max_delta }
 {
-    let m = most(counts, k);
+    let m = most(counts, judge.by.k);
     if m == 0 {
-        return 0;
+        return Verdict::Stays;
     }
-    let Target::Index(c, d) = nearest(counts, m, palette, k, own) else {
-        return 0;
-    };
-    decide(c, d < max_delta)
+    match nearest(judge, counts, m, own) {
+        Some(target) => decide(target.index, target.distance < judge.by.max_delta),
+        None => Verdict::Stays,
+    }
 }

@@ -1,13 +1,11 @@
 // The votes on a region: each large cell beside it votes once, for its own index.
-ghost use Rattle.std.specs.Prelude.{◌≡◌, true, ◌<◌};
-ghost use Rattle.std.proofs.Math.Option.{some};
+ghost use Rattle.std.specs.Prelude.{◌≡◌, true, ◌<◌, Some};
 ghost use Rattle.verdicts.specs.Steps.{area_of, adjoins, landing, OneStep};
 ghost use Rattle.verdicts.specs.Groups.{Stretch, GroupedSheet, CanVote};
 ghost use Rattle.verdicts.specs.Polling.{Tallied, Polled, Beside};
 
 use crate::large::Span;
-use crate::step_count;
-use grid::{Grid, Move, OFFSETS8, Step, on_edge, reached};
+use grid::{Grid, Move, OFFSETS8, on_edge, reached};
 
 // The cell q votes, if it is large and has not voted.
 fn ask(work: &mut [u32], n: usize, q: usize, mark: u32, counts: &mut [u32; 256])
@@ -18,14 +16,10 @@ fn ask(work: &mut [u32], n: usize, q: usize, mark: u32, counts: &mut [u32; 256])
 {
     let last = work[5 * n + q];
     let small = last == 0;
-    if small {
+    if small || last == mark {
         return;
     }
-    if last == mark {
-        return;
-    }
-    let paint = work[q] as usize;
-    let c = paint - 1;
+    let c = work[q] as usize - 1;
     work[5 * n + q] = mark;
     counts[c] += 1;
 }
@@ -34,13 +28,11 @@ fn ask(work: &mut [u32], n: usize, q: usize, mark: u32, counts: &mut [u32; 256])
 fn vote(work: &mut [u32], grid: Grid, step: Move, mark: u32, counts: &mut [u32; 256])
     requires grouped_sheet { GroupedSheet grid work.old × OneStep grid step × (0 < mark) }
     requires tallied { Tallied (area_of grid) work.old mark counts.old }
-    ensures { Polled (area_of grid) mark (λ q. landing grid step ≡ some q) work.old work.new counts.new }
+    ensures { Polled (area_of grid) mark (λ q. landing grid step ≡ Some q) work.old work.new counts.new }
 {
-    let Step::Cell(q) = reached(step.p, step.dy, step.dx, step.border, grid.h, grid.w) else {
-        return;
-    };
-    let n = grid.h * grid.w;
-    ask(work, n, q, mark, counts);
+    if let Some(q) = reached(step.p, step.dy, step.dx, step.border, grid.h, grid.w) {
+        ask(work, grid.h * grid.w, q, mark, counts);
+    }
 }
 
 // The neighbours of the cell p vote.
@@ -50,15 +42,12 @@ fn vote_all(work: &mut [u32], grid: Grid, p: usize, mark: u32, counts: &mut [u32
     ensures { Polled (area_of grid) mark (λ q. adjoins grid p q ≡ true) work.old work.new counts.new }
 {
     let border = on_edge(p, grid.h, grid.w);
-    let offsets = OFFSETS8;
-    let steps = step_count(grid);
-    for s in 0..8 {
+    let steps = grid.near.steps();
+    for (s, offset) in OFFSETS8.iter().enumerate() {
         if s == steps {
             return;
         }
-        let o = offsets[s];
-        let dy = o[0];
-        let dx = o[1];
+        let [dy, dx] = *offset;
         vote(work, grid, Move { p, dy, dx, border }, mark, counts);
     }
 }

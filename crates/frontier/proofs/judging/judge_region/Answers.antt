@@ -1,0 +1,50 @@
+-- `frontier::judging::judge_region`, way out by way out. Assumes nothing.
+use Rattle.std.proofs.Common.{◌≡◌, ◌+◌, ◌*◌, ap, ◌∙◌, add-one, length-set, arith}
+use Rattle.verdicts.specs.Steps.{area_of}
+use Rattle.verdicts.specs.Choice.{number}
+use Rattle.verdicts.proofs.Keeping.{sheet-few, group-alike}
+use Rattle.frontier.proofs.Stages.{stage_room}
+use Rattle.frontier.proofs.Notes.{noted_still, six_alike, noted_froze, noted_logged, noted_room}
+use Rattle.frontier.proofs.judging.judge_region.Goals as goal
+
+pub returns-in-Stays : goal.returns-in-Stays
+unfolding number
+returns-in-Stays c = noted_still _ _ c.args.at _ _ _ c.requires.group.label (stage_room c.requires.stage c.requires.group).0 (rw c.in-Stays.is at c.verdict-verdict.ensures)
+
+pub set_region-requires-clause-group : goal.set_region-requires-clause-group
+unfolding number
+set_region-requires-clause-group c =
+    let n = area_of c.args.judge.grid in
+    let few = sheet-few c.requires.stage.sheet in
+    let u = rw (c.in-Frozen.is, ← c.code.ensures) at c.verdict-verdict.ensures in
+    group-alike (six_alike _ n c.args.at c.args.end _ _ c.requires.group.label (stage_room c.requires.stage c.requires.group).0 _ u (λ z. let o : c.code.result ≡ 1 = c.code.ensures in omega arith)
+    (6 * n + c.args.at) (omega arith) (omega (arith, c.verdict-verdict.ensures.kept.len, c.requires.group.label))) c.args.at c.requires.group
+
+pub returns-in-Frozen : goal.returns-in-Frozen
+unfolding number
+returns-in-Frozen c =
+    let n = area_of c.args.judge.grid in
+    let u = rw (c.in-Frozen.is, ← c.code.ensures) at c.verdict-verdict.ensures in
+    noted_froze _ n c.args.at c.args.end _ _ c.requires.group.label (stage_room c.requires.stage c.requires.group).0 _ u (λ z. let o : c.code.result ≡ 1 = c.code.ensures in omega arith)
+    (6 * n + c.args.at) (omega arith) (omega (arith, c.verdict-verdict.ensures.kept.len, c.requires.group.label)) c.code.ensures _ c.set_region.ensures
+
+pub returns-in-Takes : goal.returns-in-Takes
+unfolding number
+returns-in-Takes c =
+    let n = area_of c.args.judge.grid in
+    let v : c.code-in-Takes.result ≡ c.in-Takes.field-0 + 2 = c.code-in-Takes.ensures ∙ ap number c.in-Takes.is in
+    let u = rw (← c.code-in-Takes.ensures) at c.verdict-verdict.ensures in
+    let some : c.code-in-Takes.result ≡ 0 → ⊥ = (λ z. omega arith) in
+    let room = noted_room c.requires.stage c.requires.group u some in
+    rw (add-one c.args.end)
+    (noted_logged _ n c.args.at c.args.end _ _ c.requires.group.label (stage_room c.requires.stage c.requires.group).0 _ u some
+    (6 * n + c.args.at) (omega arith) (omega (arith, c.verdict-verdict.ensures.kept.len, c.requires.group.label)) (λ z. omega arith) room
+    (7 * n + c.args.end) (omega arith) (simp length-set (omega (arith, c.verdict-verdict.ensures.kept.len))))
+
+pub bounds-work-n-in-Takes-2 : goal.bounds-work-n-in-Takes-2
+unfolding number
+bounds-work-n-in-Takes-2 c =
+    let v : c.code-in-Takes.result ≡ c.in-Takes.field-0 + 2 = c.code-in-Takes.ensures ∙ ap number c.in-Takes.is in
+    let u = rw (← c.code-in-Takes.ensures) at c.verdict-verdict.ensures in
+    let room = noted_room c.requires.stage c.requires.group u (λ z. omega arith) in
+    simp length-set (omega (arith, c.verdict-verdict.ensures.kept.len))
