@@ -9,12 +9,16 @@ use native.Mathlib.Omega.{arith}
 use lib.Dec.{eqb}
 use lib.IntN.{ℤ, pos, negsuc, neg_ℤ}
 use lib.Signed.{non_neg}
+use mir.Syntax.{w32}
+use mir.Val.{of_z, to_z}
 use borrow.Author.Tests.{ne_eqb}
+use Rattle.std.specs.Prelude.{Option, Some, None, unsigned_abs}
+use Rattle.std.specs.Option.{unwrap_or}
 use Rattle.base.proofs.Counting.{case, clash, left, right, not_true, eqb_yes, yes_eqb}
 use Rattle.rules.specs.Sheet.{Sheet}
 use Rattle.rules.specs.Corners.{Corner, corners, same, look, finds, opposite, arms, around, goes_on, is_corner, trimmed_by}
 use Rattle.grid.specs.Planes.{paint_of, cell_of}
-use Rattle.jaggies.specs.Rows.{OnBoth, Sign, way, seen, cut, toward}
+use Rattle.jaggies.specs.Rows.{OnBoth, way, seen, cut, toward}
 use Rattle.jaggies.proofs.Steps.{same_paint, finds_paint}
 
 -- ---- a paint on two sides
@@ -32,6 +36,13 @@ pub either_no : (b d : Bool) → not (b && d) ≡ true → (b ≡ false) ⊎ (d 
 either_no false d e = inl refl
 either_no true false e = inr refl
 either_no true true e = absurd (false≢true e)
+
+-- a test after another one: it counts where that passed
+pub on_yes : {f g v : Bool} → f ≡ true → v ≡ g → v ≡ (f && g)
+on_yes e h = rw e h
+
+pub on_no : {f v : Bool} (g : Bool) → f ≡ false → v ≡ false → v ≡ (f && g)
+on_no g e h = rw e h
 
 -- ---- paint and cells
 
@@ -68,45 +79,36 @@ unpaint (negsuc i) b e l = absurd (omega arith)
 -- ---- one corner: a the cell's paint, b that of the cell opposite
 
 module _ (s : Sheet) (p : ℕ) (c : Corner) (a b : ℕ) (la : 0 < a) (e : b ≡ paint_of (opposite s p c)) where
-  pub cut_clear : b ≡ 0 → 0 ≡ cut s p c (cell_of a)
+  pub cut_clear : b ≡ 0 → None ≡ cut s p c (cell_of a)
   unfolding cut is_corner
   cut_clear z = rw (clear (opposite s p c) (sym z ∙ e), is_corner)
 
-  pub cut-same : b ≡ a → 0 ≡ cut s p c (cell_of a)
+  pub cut-same : b ≡ a → None ≡ cut s p c (cell_of a)
   unfolding cut is_corner
   cut-same z =
       let o : non_neg (opposite s p c) ≡ true = solid (opposite s p c) (λ y. omega arith) in
       let t : same (opposite s p c) (cell_of a) ≡ true = same_paint (opposite s p c) a la ∙ yes_eqb (sym e ∙ z) in
       rw (o, t, is_corner)
 
-  pub cut_by : (b ≡ 0 → ⊥) → (b ≡ a → ⊥) → (t : Bool) → (arms s p c (cell_of a) && around s p c (cell_of b) && goes_on s p c (cell_of a)) ≡ t → cond t b 0 ≡ cut s p c (cell_of a)
+  pub cut_by : (b ≡ 0 → ⊥) → (b ≡ a → ⊥) → (t : Bool) → (arms s p c (cell_of a) && around s p c (cell_of b) && goes_on s p c (cell_of a)) ≡ t → cond t (Some b) None ≡ cut s p c (cell_of a)
   unfolding cut is_corner
   cut_by n m t f =
       let o : non_neg (opposite s p c) ≡ true = solid (opposite s p c) (λ y. omega arith) in
       let d : same (opposite s p c) (cell_of a) ≡ false = same_paint (opposite s p c) a la ∙ ne_eqb (paint_of (opposite s p c)) a (λ y. m (e ∙ y)) in
       let g : cell_of b ≡ opposite s p c = ap cell_of e ∙ cell_paint (opposite s p c) o in
       let f' : (arms s p c (cell_of a) && around s p c (opposite s p c) && goes_on s p c (cell_of a)) ≡ t = rw g at f in
-      rw (o, d, is_corner, f') (ap (λ (x : ℕ). cond t x 0) e)
+      rw (o, d, is_corner, f') (ap (λ (x : ℕ). cond t (Some x) None) e)
 
 -- ---- which corner a cell can be
 
--- v, or w where v is 0
-unfoldable pub or_else : ℕ → ℕ → ℕ
-or_else zero w = w
-or_else (suc v) w = suc v
-
-pub or_other : (v w : ℕ) → v ≡ 0 → w ≡ or_else v w
-unfolding or_else
-or_other v w e = rw e
-
-pub or_this : (v w : ℕ) → 0 < v → v ≡ or_else v w
-unfolding or_else
-or_this zero w l = absurd (omega arith)
-or_this (suc v) w l = refl
-
-pub toward_sign : (next a : ℕ) → Sign (toward next a)
+-- the ways that `toward` tells, as the machine holds them
+pub toward_held : (next a : ℕ) → to_z w32 (of_z w32 (toward next a)) ≡ toward next a
 unfolding toward
-toward_sign next a = case (eqb next a) (λ y. rw y (inr refl)) (λ z. rw z (inl refl))
+toward_held next a = case (eqb next a) (λ y. rw y refl) (λ z. rw z refl)
+
+pub toward_one : (next a : ℕ) → unsigned_abs (to_z w32 (of_z w32 (toward next a))) ≡ 1
+unfolding toward
+toward_one next a = case (eqb next a) (λ y. rw y refl) (λ z. rw z refl)
 
 -- at a corner of a cell of the paint a the arms have it, and the cells across from them do not
 pub record Sided (s : Sheet) (p : ℕ) (c : Corner) (a : ℕ) : Type 0 where
@@ -164,61 +166,56 @@ module _ (s : Sheet) (p : ℕ) (a : ℕ) (la : 0 < a) where
       }
 
   -- what tells a cell from a corner
-  pub no_corner : (c : Corner) → (Sided s p c a → ⊥) → cut s p c (cell_of a) ≡ 0
+  pub no_corner : (c : Corner) → (Sided s p c a → ⊥) → cut s p c (cell_of a) ≡ None
   unfolding cut
   no_corner c n = case (is_corner s p c (cell_of a) (opposite s p c)) (λ y. absurd (n (corner_sided c y))) (λ z. rw z)
 
   -- the first of several corners decides
-  by_next : (c : Corner) (cs : List Corner) → paint_of (trimmed_by s p (c ∷ cs) (cell_of a)) ≡ or_else (cut s p c (cell_of a)) (paint_of (trimmed_by s p cs (cell_of a)))
-  unfolding trimmed_by cut or_else
-  by_next c cs =
-      case (is_corner s p c (cell_of a) (opposite s p c))
-      (λ y. rw (y, trimmed_by) (or_this (paint_of (opposite s p c)) _ (solid_paint (opposite s p c) (parts c (opposite s p c) y).opaque)))
-      (λ z. rw (z, trimmed_by))
+  by_next : (c : Corner) (cs : List Corner) → paint_of (trimmed_by s p (c ∷ cs) (cell_of a)) ≡ unwrap_or (cut s p c (cell_of a)) (paint_of (trimmed_by s p cs (cell_of a)))
+  unfolding trimmed_by cut
+  by_next c cs = case (is_corner s p c (cell_of a) (opposite s p c)) (λ y. rw (y, trimmed_by)) (λ z. rw (z, trimmed_by))
 
   by_none : paint_of (trimmed_by s p [] (cell_of a)) ≡ a
   unfolding trimmed_by
   by_none = sym (paint_cell a)
 
-  abbrev corner : ℤ → ℤ → ℕ
+  abbrev corner : ℤ → ℤ → Option ℕ
   corner sy sx = cut s p (way sy sx) (cell_of a)
 
-  by_four : paint_of (trimmed_by s p corners (cell_of a)) ≡ or_else (corner (negsuc 0) (negsuc 0)) (or_else (corner (negsuc 0) (pos 1)) (or_else (corner (pos 1) (negsuc 0)) (or_else (corner (pos 1) (pos 1)) a)))
+  by_four : paint_of (trimmed_by s p corners (cell_of a)) ≡ unwrap_or (corner (negsuc 0) (negsuc 0)) (unwrap_or (corner (negsuc 0) (pos 1)) (unwrap_or (corner (pos 1) (negsuc 0)) (unwrap_or (corner (pos 1) (pos 1)) a)))
   unfolding corners
   by_four = rw (by_next, by_next, by_next, by_next, by_none)
 
   -- by the paints of the four cells beside, above and below
   module _ (l r u d : ℕ) (el : l ≡ seen (look s p (pos 0) (negsuc 0))) (er : r ≡ seen (look s p (pos 0) (pos 1)))
       (eu : u ≡ seen (look s p (negsuc 0) (pos 0))) (ed : d ≡ seen (look s p (pos 1) (pos 0))) where
-    not_left : (sy : ℤ) → (l ≡ a → r ≡ a) → corner sy (negsuc 0) ≡ 0
+    not_left : (sy : ℤ) → (l ≡ a → r ≡ a) → corner sy (negsuc 0) ≡ None
     not_left sy f = no_corner (way sy (negsuc 0)) (λ k. k.across (sym er ∙ f (el ∙ k.beside)))
 
-    not_right : (sy : ℤ) → (r ≡ a → l ≡ a) → corner sy (pos 1) ≡ 0
+    not_right : (sy : ℤ) → (r ≡ a → l ≡ a) → corner sy (pos 1) ≡ None
     not_right sy f = no_corner (way sy (pos 1)) (λ k. k.across (sym el ∙ f (er ∙ k.beside)))
 
-    not_up : (sx : ℤ) → (u ≡ a → d ≡ a) → corner (negsuc 0) sx ≡ 0
+    not_up : (sx : ℤ) → (u ≡ a → d ≡ a) → corner (negsuc 0) sx ≡ None
     not_up sx f = no_corner (way (negsuc 0) sx) (λ k. k.behind (sym ed ∙ f (eu ∙ k.along)))
 
-    not_down : (sx : ℤ) → (d ≡ a → u ≡ a) → corner (pos 1) sx ≡ 0
+    not_down : (sx : ℤ) → (d ≡ a → u ≡ a) → corner (pos 1) sx ≡ None
     not_down sx f = no_corner (way (pos 1) sx) (λ k. k.behind (sym eu ∙ f (ed ∙ k.along)))
 
     -- its paint on both sides or on neither: no corner
     pub level : OnBoth l r a → a ≡ paint_of (trimmed_by s p corners (cell_of a))
-    unfolding or_else
     level k =
         sym (by_four ∙ rw (not_left (negsuc 0) k.there, not_right (negsuc 0) k.back, not_left (pos 1) k.there, not_right (pos 1) k.back))
 
     pub upright : OnBoth u d a → a ≡ paint_of (trimmed_by s p corners (cell_of a))
-    unfolding or_else
     upright k =
         sym (by_four ∙ rw (not_up (negsuc 0) k.there, not_up (pos 1) k.there, not_down (negsuc 0) k.back, not_down (pos 1) k.back))
 
     -- else the one corner that it can be
-    pub turned : or_else (corner (toward d a) (toward r a)) a ≡ paint_of (trimmed_by s p corners (cell_of a))
-    unfolding toward or_else
+    pub turned : unwrap_or (corner (toward d a) (toward r a)) a ≡ paint_of (trimmed_by s p corners (cell_of a))
+    unfolding toward
     turned = sym (by_four ∙ pick)
       where
-        pick : or_else (corner (negsuc 0) (negsuc 0)) (or_else (corner (negsuc 0) (pos 1)) (or_else (corner (pos 1) (negsuc 0)) (or_else (corner (pos 1) (pos 1)) a))) ≡ or_else (corner (toward d a) (toward r a)) a
+        pick : unwrap_or (corner (negsuc 0) (negsuc 0)) (unwrap_or (corner (negsuc 0) (pos 1)) (unwrap_or (corner (pos 1) (negsuc 0)) (unwrap_or (corner (pos 1) (pos 1)) a))) ≡ unwrap_or (corner (toward d a) (toward r a)) a
         pick = case (eqb d a)
             (λ y. case (eqb r a)
             (λ x. let e : r ≡ a = eqb_yes x in let f : d ≡ a = eqb_yes y in

@@ -45,6 +45,13 @@ same_room e r = record {
   paints = r.paints;
 }
 
+-- where a spot's own paint stands in the work area
+pub own_place : (s : Spot) → s.x < s.w → place_of s + 3 * s.w - end_of s ≡ 2 * s.w + s.x
+own_place s l = omega arith
+
+pub own_paint : (s : Spot) → s.x < s.w → {old : List ℤ} {work : List ℕ} → Held old work s.w (end_of s) → get_or work (2 * s.w + s.x) 0 ≡ paint_of (at old (place_of s))
+own_paint s l held = rw (own_place s l) at (held.paint (place_of s) (omega arith) (omega arith))
+
 -- what a test reads is the sheet as it was: above and in the spot's row it is held, below it is not yet written
 pub shown : {old cells : List ℤ} {work : List ℕ} {s : Spot} → s.x < s.w → Held old work s.w (end_of s) → Trimmed old s.h s.w (place_of s) cells → Shown old cells work s
 unfolding paint_at

@@ -1,7 +1,7 @@
 -- What signed numbers of the machine tell: cells and their paint, and the steps of a corner. Assumes nothing.
 use Prim.Native.Nat.{◌+◌, ◌≤◌, ◌<◌}
-use mathlib.Core.Path.{◌≡◌, refl}
-use mathlib.Core.Logic.{inl, inr}
+use mathlib.Core.Path.{◌≡◌, refl, ap}
+use mathlib.Core.Logic.{◌⊎◌, inl, inr}
 use mathlib.Core.Bool.{true, false, true≢false}
 use native.Mathlib.Omega.{arith}
 use borrow.Author.Tests.{le-ltb}
@@ -12,7 +12,7 @@ use mir.Val.{SFits, Fits, of_z, to_z}
 use mir.Facts.{to_z-of_z, sfits_lit}
 use Rattle.base.proofs.Counting.{clash}
 use Rattle.grid.specs.Planes.{paint_of}
-use Rattle.jaggies.specs.Rows.{most, Sign, Short}
+use Rattle.jaggies.specs.Rows.{most, Short}
 
 -- ---- paint
 
@@ -44,6 +44,9 @@ module _ {z : ℤ} (f : SFits w32 z) where
   paint_fits = rw (to_z-of_z f) (omega (arith, nat_abs-le z f.sfits))
 
 -- ---- the steps of a corner
+
+abbrev Sign : ℤ → Type 0
+Sign z = (z ≡ negsuc 0) ⊎ (z ≡ pos 1)
 
 -- a step as it arrives: what was worked out and read back
 arrives : {z y : ℤ} → SFits w32 y → z ≡ y → to_z w32 (of_z w32 z) ≡ y
@@ -80,28 +83,17 @@ sum_short (inr e) = rw e (record { low = refl; high = refl })
 pub none_short : Short (pos 0)
 none_short = record { low = refl; high = refl }
 
-module _ {z : ℤ} (g : Sign z) where
+-- one place on or one place back
+sign_of : (z : ℤ) → nat_abs z ≡ 1 → Sign z
+sign_of (pos n) e = inr (ap pos e)
+sign_of (negsuc n) e = let z : n ≡ 0 = omega arith in inl (ap negsuc z)
+
+module _ (z : ℤ) (u : nat_abs z ≡ 1) where
   pub on : to_z w32 (of_z w32 z) ≡ z
-  on = to_z-of_z (sign_fits g)
+  on = to_z-of_z (sign_fits (sign_of z u))
 
   pub back : to_z w32 (of_z w32 (pos 0 -ℤ to_z w32 (of_z w32 z))) ≡ neg_ℤ z
-  back = arrives (sign_fits (back_sign g)) (back_is g)
+  back = arrives (sign_fits (back_sign (sign_of z u))) (back_is (sign_of z u))
 
   pub twice : to_z w32 (of_z w32 (to_z w32 (of_z w32 z) +ℤ to_z w32 (of_z w32 z))) ≡ z +ℤ z
-  twice = arrives (twice_fits g) (twice-is g)
-
-  pub back_fits : SFits w32 (pos 0 -ℤ to_z w32 (of_z w32 z))
-  back_fits = rw (back_is g) (sign_fits (back_sign g))
-
-  pub sum_fits : SFits w32 (to_z w32 (of_z w32 z) +ℤ to_z w32 (of_z w32 z))
-  sum_fits = rw (twice-is g) (twice_fits g)
-
-  -- each is short
-  pub on_short : Short (to_z w32 (of_z w32 z))
-  on_short = rw on (sign_short g)
-
-  pub back_short : Short (to_z w32 (of_z w32 (pos 0 -ℤ to_z w32 (of_z w32 z))))
-  back_short = rw back (sign_short (back_sign g))
-
-  pub twice_short : Short (to_z w32 (of_z w32 (to_z w32 (of_z w32 z) +ℤ to_z w32 (of_z w32 z))))
-  twice_short = rw twice (sum_short g)
+  twice = arrives (twice_fits (sign_of z u)) (twice-is (sign_of z u))

@@ -3,7 +3,7 @@ use Prim.Native.Nat.{ℕ, zero, suc, ◌+◌, ◌*◌, ◌/◌, ◌%◌, ◌≤�
 use mathlib.Core.Path.{◌≡◌, refl, sym, ap, ◌∙◌}
 use mathlib.Core.Bool.{true, false}
 use mathlib.Core.List.{List}
-use mathlib.Core.Option.{Option, none, some}
+use Rattle.std.specs.Prelude.{Option, None, Some}
 use native.Mathlib.Nat.{mul-le-mul_right, add-mul, div-add-mod'}
 use native.Mathlib.Omega.{arith}
 use borrow.Author.Tests.{ne_eqb}
@@ -29,7 +29,7 @@ same_paint (pos i) (suc a) l =
 same_paint (negsuc i) (suc a) l = sym (ne_eqb 0 (suc a) (omega arith))
 
 -- a short step leads back by at most two rows
-pub in_reach : (h w y x q : ℕ) (dy dx : ℤ) → Short dy → step_to h w y x dy dx ≡ some q → (q < h * w) × (y * w + w ≤ q + 3 * w)
+pub in_reach : (h w y x q : ℕ) (dy dx : ℤ) → Short dy → step_to h w y x dy dx ≡ Some q → (q < h * w) × (y * w + w ≤ q + 3 * w)
 in_reach h w y x q dy dx s e =
     let f : Found h w y x dy dx q = step_sound h w y x q dy dx e in
     let up : y ≤ q / w + 2 = rows dy s.low f.row in
@@ -43,11 +43,11 @@ module _ (old : List ℤ) (h w y x : ℕ) (lx : x < w) (dy dx : ℤ) where
   from_place : step_to h w ((y * w + x) / w) ((y * w + x) % w) dy dx ≡ step_to h w y x dy dx
   from_place = rw (row_of w y x lx, col_of w y x lx)
 
-  pub look-off : step_to h w y x dy dx ≡ none → 0 ≡ seen (look (sheet_of old h w) (y * w + x) dy dx)
+  pub look-off : step_to h w y x dy dx ≡ None → 0 ≡ seen (look (sheet_of old h w) (y * w + x) dy dx)
   unfolding look seen sheet_of
   look-off e = rw (from_place ∙ e, look)
 
-  pub look-on : (q : ℕ) → q < h * w → step_to h w y x dy dx ≡ some q → paint_of (at old q) ≡ seen (look (sheet_of old h w) (y * w + x) dy dx)
+  pub look-on : (q : ℕ) → q < h * w → step_to h w y x dy dx ≡ Some q → paint_of (at old q) ≡ seen (look (sheet_of old h w) (y * w + x) dy dx)
   unfolding look seen sheet_of at
   look-on q l e = rw (from_place ∙ e, look) (ap paint_of (sym (get_or-take (h * w) old q (negsuc 0) l)))
 
@@ -57,15 +57,15 @@ module _ (s : Sheet) (p : ℕ) where
   unfolding finds seen
   finds_paint dy dx a l = go (look s p dy dx)
     where
-      go : (o : Option ℤ) → eqb (seen o) a ≡ elim o [ none ↦ false | some b ↦ same b (cell_of a) ]
-      go none = ne_eqb 0 a (omega arith)
-      go (some b) = sym (same_paint b a l)
+      go : (o : Option ℤ) → eqb (seen o) a ≡ elim o [ None ↦ false | Some b ↦ same b (cell_of a) ]
+      go None = ne_eqb 0 a (omega arith)
+      go (Some b) = sym (same_paint b a l)
 
   -- the cell opposite a corner, by paint
   pub opposite_paint : (c : Corner) → seen (look s p (neg_ℤ c.sy) (neg_ℤ c.sx)) ≡ paint_of (opposite s p c)
   unfolding opposite seen paint_of
   opposite_paint c = go (look s p (neg_ℤ c.sy) (neg_ℤ c.sx))
     where
-      go : (o : Option ℤ) → seen o ≡ paint_of (elim o [ none ↦ negsuc 0 | some b ↦ b ])
-      go none = refl
-      go (some b) = refl
+      go : (o : Option ℤ) → seen o ≡ paint_of (elim o [ None ↦ negsuc 0 | Some b ↦ b ])
+      go None = refl
+      go (Some b) = refl

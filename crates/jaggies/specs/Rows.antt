@@ -1,7 +1,6 @@
 -- What corner trimming reads while it writes over the sheet: the rows that it may still test stand in the work area as they were,
 -- three of them at most, the last of which ends before the place `end`; all rows past them are untouched. Definitions only. Assumes nothing.
-use Rattle.std.specs.Prelude.{ℕ, ◌+◌, ◌-◌, ◌*◌, ◌≤◌, ◌<◌, ◌≡◌, ◌⊎◌, true, cond, List, eqb, ltb, ℤ, pos, negsuc, length, get_or}
-use Rattle.std.proofs.Math.Option.{Option, none, some}
+use Rattle.std.specs.Prelude.{ℕ, ◌+◌, ◌-◌, ◌*◌, ◌≤◌, ◌<◌, ◌≡◌, true, cond, List, eqb, ltb, ℤ, pos, negsuc, length, get_or, Option, Some, None}
 use Rattle.std.specs.Int.Signed.{le_z}
 use Rattle.base.specs.Outputs.{filled}
 use Rattle.rules.specs.Sheet.{Sheet, sheet_of}
@@ -77,25 +76,16 @@ pub record Short (d : ℤ) : Type 0 where
 
 -- the paint of the cell that a step finds; 0 if there is none
 unfoldable pub seen : Option ℤ → ℕ
-seen none = 0
-seen (some a) = paint_of a
+seen None = 0
+seen (Some a) = paint_of a
 
 -- the corner that points so
 abbrev pub way : ℤ → ℤ → Corner
 way sy sx = record { sy = sy; sx = sx }
 
--- one place on or one place back
-abbrev pub Sign : ℤ → Type 0
-Sign z = (z ≡ negsuc 0) ⊎ (z ≡ pos 1)
-
--- sy and sx point a corner
-pub record Way (sy sx : ℤ) : Type 0 where
-  pub rows : Sign sy
-  pub cols : Sign sx
-
--- the paint that the cell a at p takes if it is the corner c; 0 if it is not
-unfoldable pub cut : Sheet → ℕ → Corner → ℤ → ℕ
-cut s p c a = cond (is_corner s p c a (opposite s p c)) (paint_of (opposite s p c)) 0
+-- the paint that the cell a at p takes if it is the corner c
+unfoldable pub cut : Sheet → ℕ → Corner → ℤ → Option ℕ
+cut s p c a = cond (is_corner s p c a (opposite s p c)) (Some (paint_of (opposite s p c))) None
 
 -- the way from a cell of the paint a to an arm: on, if the next cell that way has the paint too, else back
 unfoldable pub toward : ℕ → ℕ → ℤ

@@ -2,16 +2,16 @@
 // may still read, as they were, stand in the first 3 * w numbers of the work area: 0 for a transparent cell, index + 1 otherwise.
 #![tactic(auto)]
 
-ghost use Rattle.std.specs.Prelude.{◌≡◌, false, List, ℕ, ◌+◌, ◌-◌, ◌*◌, ◌≤◌, ◌<◌, ℤ, length, get_or};
+ghost use Rattle.std.specs.Prelude.{◌≡◌, IfSome, false, List, ℕ, ◌+◌, ◌*◌, ◌≤◌, ◌<◌, ℤ, length, unsigned_abs};
 ghost use Rattle.rules.specs.Sheet.{lent_sheet, sheet_of, over};
 ghost use Rattle.rules.specs.Calls.{JaggiesCall};
 ghost use Rattle.rules.specs.Corners.{look, finds, arms, around, goes_on, corners, trimmed_by, trim};
 ghost use Rattle.rules.specs.Entries.{jaggies_answer, jaggies_cells};
 ghost use Rattle.grid.specs.Planes.{paint_of, cell_of};
-ghost use Rattle.jaggies.specs.Rows.{place_of, end_of, spot, most, paint_at, Room, Held, Trimmed, Moved, Short, Way, way, seen, Sees, cut, toward, OnBoth};
+ghost use Rattle.jaggies.specs.Rows.{place_of, end_of, spot, most, paint_at, Room, Held, Trimmed, Moved, Short, way, seen, cut, toward, OnBoth};
 
-use base::Filling;
-use grid::{Step, neighbour};
+use base::Refusal;
+use grid::neighbour;
 use refusals::sheet_refusal;
 
 // What `look` gives for a transparent cell.
@@ -26,6 +26,24 @@ struct Spot {
     w: usize,
 }
 
+// The ways from a spot to the two arms of a corner, each one place on or one place back.
+#[derive(Clone, Copy)]
+struct Corner {
+    sy: i32,
+    sx: i32,
+    ghost rows: { unsigned_abs sy ≡ 1 },
+    ghost cols: { unsigned_abs sx ≡ 1 },
+}
+
+// What the tests from a spot see: the sheet, which is written over up to the spot, and the last of its rows as they were.
+#[derive(Clone, Copy)]
+struct View<'a> {
+    cells: &'a [i32],
+    work: &'a [u32],
+    at: Spot,
+    ghost room: { Room cells.now work.now at },
+}
+
 // 0 for a transparent cell, index + 1 otherwise.
 fn paint(cell: i32) -> u32
     ensures { (result ≡ paint_of cell) × (result ≤ most) }
@@ -34,106 +52,6 @@ fn paint(cell: i32) -> u32
         return 0;
     }
     cell as u32 + 1
-}
-
-// The paint that stood at the place q; the rows in the work area end before `end`.
-fn was(cells: &[i32], work: &[u32], w: usize, end: usize, q: usize) -> u32
-    requires q_in_bounds { (q < length cells.now) × (q < 264196) × (end ≤ q + 3 * w) × (3 * w ≤ length work.now) × (w ≤ 512) }
-    requires end_bound { q < end → get_or work.now (q + 3 * w - end) 0 ≤ most }
-    ensures { (result ≡ paint_at cells.now work.now w end q) × (result ≤ most) }
-{
-    let replaced = q < end;
-    if replaced {
-        return work[q + 3 * w - end];
-    }
-    paint(cells[q])
-}
-
-// The paint of the cell that a step from a spot finds; off the grid it is 0.
-fn look(cells: &[i32], work: &[u32], at: Spot, dy: i32, dx: i32) -> u32
-    requires { Room cells.now work.now at × Short dy × Short dx }
-    ensures sees { Sees cells.now work.now at result (λ s p. seen (look s p dy dx)) }
-    ensures upper_bound { result ≤ most }
-{
-    let Step::Cell(q) = neighbour(at.y, at.x, dy, dx, at.h, at.w) else {
-        return 0;
-    };
-    let end = at.y * at.w + at.w;
-    was(cells, work, at.w, end, q)
-}
-
-// Whether a step from a spot finds the paint a.
-fn finds(cells: &[i32], work: &[u32], at: Spot, dy: i32, dx: i32, a: u32) -> bool
-    requires { Room cells.now work.now at × Short dy × Short dx × (0 < a) }
-    ensures { Sees cells.now work.now at result (λ s p. finds s p dy dx (cell_of a)) }
-{
-    look(cells, work, at, dy, dx) == a
-}
-
-// Both arms of the corner have the paint a.
-fn arms(cells: &[i32], work: &[u32], at: Spot, sy: i32, sx: i32, a: u32) -> bool
-    requires { Room cells.now work.now at × Way sy sx × (0 < a) }
-    ensures { Sees cells.now work.now at result (λ s p. arms s p (way sy sx) (cell_of a)) }
-{
-    finds(cells, work, at, 0, sx, a) && finds(cells, work, at, sy, 0, a)
-}
-
-// The other six neighbours have the paint b.
-fn around(cells: &[i32], work: &[u32], at: Spot, sy: i32, sx: i32, b: u32) -> bool
-    requires { Room cells.now work.now at × Way sy sx × (0 < b) }
-    ensures { Sees cells.now work.now at result (λ s p. around s p (way sy sx) (cell_of b)) }
-{
-    let oy = -sy;
-    let ox = -sx;
-    if !finds(cells, work, at, oy, ox, b) {
-        return false;
-    }
-    if !finds(cells, work, at, oy, 0, b) {
-        return false;
-    }
-    if !finds(cells, work, at, oy, sx, b) {
-        return false;
-    }
-    if !finds(cells, work, at, 0, ox, b) {
-        return false;
-    }
-    if !finds(cells, work, at, sy, ox, b) {
-        return false;
-    }
-    finds(cells, work, at, sy, sx, b)
-}
-
-// The staircase of the paint a goes on beyond both arms.
-fn goes_on(cells: &[i32], work: &[u32], at: Spot, sy: i32, sx: i32, a: u32) -> bool
-    requires { Room cells.now work.now at × Way sy sx × (0 < a) }
-    ensures { Sees cells.now work.now at result (λ s p. goes_on s p (way sy sx) (cell_of a)) }
-{
-    finds(cells, work, at, -sy, sx + sx, a) && finds(cells, work, at, sy + sy, -sx, a)
-}
-
-// What a spot of the paint a becomes if it is this corner: the paint around it; else 0.
-fn cut(cells: &[i32], work: &[u32], at: Spot, sy: i32, sx: i32, a: u32) -> u32
-    requires { Room cells.now work.now at × Way sy sx × (0 < a) }
-    ensures sees { Sees cells.now work.now at result (λ s p. cut s p (way sy sx) (cell_of a)) }
-    ensures upper_bound { result ≤ most }
-{
-    let b = look(cells, work, at, -sy, -sx);
-    if b == TRANSPARENT {
-        return 0;
-    }
-    if b == a {
-        return 0;
-    }
-    if !arms(cells, work, at, sy, sx, a) {
-        return 0;
-    }
-    if !around(cells, work, at, sy, sx, b) {
-        return 0;
-    }
-    if !goes_on(cells, work, at, sy, sx, a) {
-        return 0;
-    }
-    b
 }
 
 // The way from a spot of the paint a to an arm of its corner: on, if the next cell that way has the paint too, else back.
@@ -150,25 +68,114 @@ fn on_one(x: u32, y: u32, a: u32) -> bool
     if x == a { y != a } else { y == a }
 }
 
-// What a spot of the paint a becomes. It can be one corner at most: at a corner one of the cells beside the spot, and one of those
-// above and below it, has its paint.
-fn trimmed(cells: &[i32], work: &[u32], at: Spot, a: u32) -> u32
-    requires { Room cells.now work.now at × (0 < a) × (a ≤ most) }
-    ensures sees { Sees cells.now work.now at result (λ s p. paint_of (trimmed_by s p corners (cell_of a))) }
-    ensures result_nonzero { (0 < result) × (result ≤ most) }
-{
-    let left = look(cells, work, at, 0, -1);
-    let right = look(cells, work, at, 0, 1);
-    if left == right {
-        return a;
+impl View<'_> {
+    ghost use Rattle.jaggies.specs.Tests.{Tells};
+
+    // The paint that stood at the place q; the rows in the work area end with the spot's.
+    fn was(&self, q: usize) -> u32
+        requires { (q < self.now.at.h * self.now.at.w) × (end_of self.now.at ≤ q + 3 * self.now.at.w) }
+        ensures { (result ≡ paint_at self.now.cells.now self.now.work.now self.now.at.w (end_of self.now.at) q) × (result ≤ most) }
+    {
+        let w = self.at.w;
+        let end = self.at.y * w + w;
+        let replaced = q < end;
+        if replaced {
+            return self.work[q + 3 * w - end];
+        }
+        paint(self.cells[q])
     }
-    let above = look(cells, work, at, -1, 0);
-    let below = look(cells, work, at, 1, 0);
-    if !(on_one(left, right, a) & on_one(above, below, a)) {
-        return a;
+
+    // The paint of the cell that a step from the spot finds; off the grid it is 0.
+    fn look(&self, dy: i32, dx: i32) -> u32
+        requires { Short dy × Short dx }
+        ensures sees { Tells self.now result (λ s p. seen (look s p dy dx)) }
+        ensures upper_bound { result ≤ most }
+    {
+        let at = self.at;
+        match neighbour(at.y, at.x, dy, dx, at.h, at.w) {
+            Some(q) => self.was(q),
+            None => 0,
+        }
     }
-    let to = cut(cells, work, at, toward(below, a), toward(right, a), a);
-    if to == 0 { a } else { to }
+
+    // Whether a step from the spot finds the paint a.
+    fn finds(&self, dy: i32, dx: i32, a: u32) -> bool
+        requires { Short dy × Short dx × (0 < a) }
+        ensures { Tells self.now result (λ s p. finds s p dy dx (cell_of a)) }
+    {
+        self.look(dy, dx) == a
+    }
+
+    // Both arms of the corner have the paint a.
+    fn arms(&self, c: Corner, a: u32) -> bool
+        requires { 0 < a }
+        ensures { Tells self.now result (λ s p. arms s p (way c.sy c.sx) (cell_of a)) }
+    {
+        self.finds(0, c.sx, a) && self.finds(c.sy, 0, a)
+    }
+
+    // The other six neighbours have the paint b.
+    fn around(&self, c: Corner, b: u32) -> bool
+        requires { 0 < b }
+        ensures { Tells self.now result (λ s p. around s p (way c.sy c.sx) (cell_of b)) }
+    {
+        let oy = -c.sy;
+        let ox = -c.sx;
+        self.finds(oy, ox, b)
+            && self.finds(oy, 0, b)
+            && self.finds(oy, c.sx, b)
+            && self.finds(0, ox, b)
+            && self.finds(c.sy, ox, b)
+            && self.finds(c.sy, c.sx, b)
+    }
+
+    // The staircase of the paint a goes on beyond both arms.
+    fn goes_on(&self, c: Corner, a: u32) -> bool
+        requires { 0 < a }
+        ensures { Tells self.now result (λ s p. goes_on s p (way c.sy c.sx) (cell_of a)) }
+    {
+        self.finds(-c.sy, c.sx + c.sx, a) && self.finds(c.sy + c.sy, -c.sx, a)
+    }
+
+    // What the spot, of the paint a, becomes if it is this corner: the paint around it.
+    fn cut(&self, c: Corner, a: u32) -> Option<u32>
+        requires { 0 < a }
+        ensures sees { Tells self.now result (λ s p. cut s p (way c.sy c.sx) (cell_of a)) }
+        ensures bounds { IfSome result (λ b. (0 < b) × (b ≤ most)) }
+    {
+        let b = self.look(-c.sy, -c.sx);
+        if b == TRANSPARENT || b == a {
+            return None;
+        }
+        if self.arms(c, a) && self.around(c, b) && self.goes_on(c, a) {
+            return Some(b);
+        }
+        None
+    }
+
+    // What the spot, of the paint a, becomes. It can be one corner at most: at a corner one of the cells beside the spot, and one of
+    // those above and below it, has its paint.
+    fn trimmed(&self, a: u32) -> u32
+        requires { (0 < a) × (a ≤ most) }
+        ensures sees { Tells self.now result (λ s p. paint_of (trimmed_by s p corners (cell_of a))) }
+        ensures result_nonzero { (0 < result) × (result ≤ most) }
+    {
+        let left = self.look(0, -1);
+        let right = self.look(0, 1);
+        if left == right {
+            return a;
+        }
+        let above = self.look(-1, 0);
+        let below = self.look(1, 0);
+        if !(on_one(left, right, a) & on_one(above, below, a)) {
+            return a;
+        }
+        let corner = Corner {
+            sy: toward(below, a),
+            sx: toward(right, a),
+        };
+        self.cut(corner, a).unwrap_or(a)
+    }
 }
 
 // One spot of the sheet.
@@ -182,7 +189,8 @@ fn trim_cell(cells: &mut [i32], work: &[u32], at: Spot)
     if a == 0 {
         return;
     }
-    let b = trimmed(cells, work, at, a);
+    let view = View { cells, work, at };
+    let b = view.trimmed(a);
     let p = at.y * w + x;
     cells[p] = (b - 1) as i32;
 }
@@ -230,13 +238,11 @@ pub fn trim_sheet(cells: &mut [i32], h: usize, w: usize, work: &mut [u32])
 }
 
 // Corner trimming over the lent cells. Below 4 rows or columns nothing changes. The work area holds 8 numbers for each cell.
-pub fn fix_jaggies(cells: &mut [i32], h: usize, w: usize, work: &mut [u32]) -> Filling
+pub fn fix_jaggies(cells: &mut [i32], h: usize, w: usize, work: &mut [u32]) -> Result<(), Refusal>
     ensures { (let call : JaggiesCall = record { lent = lent_sheet cells.old h w (length work.old) } in
         (result ≡ jaggies_answer call) × (cells.new ≡ jaggies_cells call)) }
 {
-    if let Filling::Refused(row) = sheet_refusal(h, w, false, cells.len(), work.len()) {
-        return Filling::Refused(row);
-    }
+    sheet_refusal(h, w, false, cells.len(), work.len())?;
     trim_sheet(cells, h, w, work);
-    Filling::Done
+    Ok(())
 }
