@@ -3,19 +3,17 @@ use Prim.Native.Nat.{ℕ, ◌+◌, ◌*◌, ◌≤◌}
 use mathlib.Core.Path.{◌≡◌, refl, sym, ap, ◌∙◌}
 use mathlib.Core.Bool.{Bool, true, false, not, ◌&&◌}
 use mathlib.Core.List.{List, ◌++◌}
-use mathlib.Core.Option.{none, some}
+use Rattle.std.specs.Prelude.{None, Some, Result, Ok, Err}
 use lib.IntN.{ℤ}
 use lib.Ieee.{Float}
 use lib.ListN.{length, take, drop, take-append-drop}
 use lib.Seq.{length-take-le}
 use Rattle.base.specs.Outputs.{filled}
-use Rattle.base.specs.Refusals.{unless}
+use Rattle.base.specs.Refusals.{unless, answered}
 use Rattle.base.proofs.Counting.{case, table-length}
 use Rattle.color.specs.declared.Lab.{Lab}
 use Rattle.rules.specs.declared.Drawing.{Drawing}
-use Rattle.rules.specs.declared.Outlining.{Outlining}
-use Rattle.rules.specs.declared.Outlining.TheVariants.{Drawn, Refused}
-use Rattle.rules.specs.declared.LineIndex.TheVariants.{Nothing, Entry}
+use Rattle.base.specs.declared.Refusal.{Refusal}
 use Rattle.rules.specs.declared.Facts.{Facts}
 use Rattle.rules.specs.Sheet.{Sheet, area, sheet_of, sheet_in, over}
 use Rattle.rules.specs.Palette.{Palette}
@@ -37,7 +35,7 @@ module _ (clipped : Bool) (how : Drawing) (palette : Palette) (l : List ℤ) (h 
   module _ (room : h * w ≤ length l) where
     -- no ring: nothing changes
     pub drew_none : has_ring (sheet_of l h w) ≡ false
-        → Drew (drawn every how palette clipped (sheet_of l h w)) l (record { height = h; width = w; colours = palette.count; outline_index = Nothing; outline_clipped = clipped }) l palette.lab
+        → Drew (drawn every how palette clipped (sheet_of l h w)) l (record { height = h; width = w; colours = palette.count; outline_index = None; outline_clipped = clipped }) l palette.lab
     unfolding drawn sheet_of facts_of over
     drew_none e =
         rw e (record {
@@ -50,11 +48,11 @@ module _ (clipped : Bool) (how : Drawing) (palette : Palette) (l : List ℤ) (h 
     pub drew_ring : has_ring (sheet_of l h w) ≡ true → (i n : ℕ) (out : List ℤ) (lab : List Float)
         → (c : Lab) → c ≡ line_colour palette how.outline → Chose palette c (choice every how.fixed_palette palette c) i n lab
         → out ≡ over (inked (sheet_of l h w) i).cells l
-        → Drew (drawn every how palette clipped (sheet_of l h w)) l (record { height = h; width = w; colours = n; outline_index = Entry i; outline_clipped = clipped }) out lab
+        → Drew (drawn every how palette clipped (sheet_of l h w)) l (record { height = h; width = w; colours = n; outline_index = Some i; outline_clipped = clipped }) out lab
     unfolding sheet_of facts_of drawn inked
     drew_ring e i n out lab c q k o =
         rw (e, sym q, sym k.at) (record {
-          told = ap (λ (j : ℕ). record { height = h; width = w; colours = j; outline_index = Entry i; outline_clipped = clipped }) k.colours;
+          told = ap (λ (j : ℕ). record { height = h; width = w; colours = j; outline_index = Some i; outline_clipped = clipped }) k.colours;
           cells = o;
           doubles = k.doubles;
         })
@@ -96,14 +94,14 @@ module _ (clipped : Bool) (how : Drawing) (palette : Palette) (l : List ℤ) (h 
 
 module _ (c : OutlineCall) where
   -- its three promises, of an answer, of the cells and of the doubles
-  abbrev pub Met : Outlining → List ℤ → List Float → Type 0
+  abbrev pub Met : Result Facts Refusal → List ℤ → List Float → Type 0
   Met r cells lab = (r ≡ outline_answer c) × (cells ≡ outline_cells c) × (lab ≡ outline_palette c)
 
-  pub met_refused : (n : ℕ) → outline_refusal c ≡ some n → Met (Refused n) c.lent.cells c.palette.lab
-  unfolding outline_answer outline_cells outline_palette unless
+  pub met_refused : (n : Refusal) → outline_refusal c ≡ Some n → Met (Err n) c.lent.cells c.palette.lab
+  unfolding outline_answer answered outline_cells outline_palette unless
   met_refused n e = rw e (refl, refl, refl)
 
-  pub met_drawn : {facts : Facts} {out : List ℤ} {lab : List Float} → outline_refusal c ≡ none
-      → Drew (outline every c.how c.palette (sheet_in c.lent)) c.lent.cells facts out lab → Met (Drawn facts) out lab
-  unfolding outline_answer outline_cells outline_palette unless
-  met_drawn e d = rw e (ap Drawn d.told, d.cells, d.doubles)
+  pub met_drawn : {facts : Facts} {out : List ℤ} {lab : List Float} → outline_refusal c ≡ None
+      → Drew (outline every c.how c.palette (sheet_in c.lent)) c.lent.cells facts out lab → Met (Ok facts) out lab
+  unfolding outline_answer answered outline_cells outline_palette unless
+  met_drawn e d = rw e (ap Ok d.told, d.cells, d.doubles)

@@ -2,13 +2,14 @@
 use Prim.Native.Nat.{ℕ, ◌+◌, ◌*◌, ◌≤◌}
 use mathlib.Core.Path.{◌≡◌, refl, sym, ap, ◌∙◌}
 use mathlib.Core.Bool.{Bool, true, false, not, ◌&&◌, ◌||◌}
-use mathlib.Core.Option.{none, some}
+use Rattle.std.specs.Prelude.{None, Some}
 use mathlib.Core.List.{List, []}
 use native.Mathlib.Omega.{arith}
 use borrow.Author.Tests.{lt-ltb, eq-eqb, ne_eqb}
 use lib.Dec.{eqb, leb}
 use lib.IntN.{ℤ}
 use lib.ListN.{length}
+use Rattle.base.specs.declared.Refusal.TheVariants.{ListTooShort}
 use Rattle.base.specs.Refusals.{refusal}
 use Rattle.base.proofs.Counting.{case, left, right, not_true, yes_leb, leb_yes, no_leb}
 use Rattle.base.proofs.Refusing.{row_hit, row-pass, rows_none}
@@ -34,12 +35,12 @@ module _ (h w len : ℕ) (b : Bool) where
       (λ y. row_hit (too_large h w) _ y ∙ sym (row_hit (too_large h w) _ y))
       (λ z. case (leb (h * w) len)
       (λ y. rw (z, y))
-      (λ n. let short : (c : Bool) → refusal (sheet_rows h w (needed h w c) len work) ≡ some 2 =
+      (λ n. let short : (c : Bool) → refusal (sheet_rows h w (needed h w c) len work) ≡ Some ListTooShort =
       (λ c. row-pass (too_large h w) _ z ∙ row_hit (too_short len (needed h w c)) _ (lt-ltb len (needed h w c) (omega (arith, needed-least h w c, no_leb {m = h * w} {n = len} n)))) in
       short (present h w len && b) ∙ sym (short b)))
 
   -- where rows 1 to 3 refuse nothing, it is there
-  there : (work : ℕ) → refusal (sheet_rows h w (needed h w b) len work) ≡ none → present h w len ≡ true
+  there : (work : ℕ) → refusal (sheet_rows h w (needed h w b) len work) ≡ None → present h w len ≡ true
   unfolding present
   there work e =
       let one = rows_none (too_large h w) _ e in
@@ -52,7 +53,7 @@ module _ (how : Drawing) (cells : List ℤ) (h w work : ℕ) {r : Bool} (is : r 
   padded_rows =
       ap (λ (b : Bool). refusal (sheet_rows h w (needed h w b) (length cells) work)) is ∙ same_rows h w (length cells) (pads how (sheet_of cells h w)) work
 
-  pub padded-is : refusal (lent_rows (lent_sheet cells h w work) (pads how (sheet_of cells h w))) ≡ none → r ≡ pads how (sheet_of cells h w)
+  pub padded-is : refusal (lent_rows (lent_sheet cells h w work) (pads how (sheet_of cells h w))) ≡ None → r ≡ pads how (sheet_of cells h w)
   padded-is e = is ∙ ap (λ (b : Bool). b && pads how (sheet_of cells h w)) (there h w (length cells) (pads how (sheet_of cells h w)) work e)
 
 -- a sheet that is there can be read

@@ -9,6 +9,7 @@ ghost use Rattle.outline.specs.Room.{Present, from_one, on_sheet};
 ghost use Rattle.outline.specs.Rows.{stretch};
 
 // Whether the cell at p is opaque.
+#[tactic(auto, unfolding(rules::specs::Regions::opaque, rules::specs::Regions::at))]
 pub fn solid(cells: &[i32], p: usize) -> bool
     requires { p < length cells.now }
     ensures { result ≡ opaque cells.now p }
@@ -53,6 +54,7 @@ pub fn touches_edge(cells: &[i32], h: usize, w: usize) -> bool
 }
 
 // Whether a is from 1 to len.
+#[tactic(auto, unfolding(crate::specs::Room::from_one))]
 fn from_one(len: usize, a: usize) -> bool
     ensures { result ≡ from_one len a }
 {
@@ -60,6 +62,7 @@ fn from_one(len: usize, a: usize) -> bool
 }
 
 // Whether row y and column x of the padded sheet lie on the sheet itself.
+#[tactic(auto, unfolding(crate::specs::Room::on_sheet))]
 fn on_sheet(h: usize, w: usize, y: usize, x: usize) -> bool
     ensures { result ≡ on_sheet h w y x }
 {
@@ -109,9 +112,7 @@ pub fn pad(cells: &mut [i32], h: usize, w: usize)
     requires { (h ≤ 512) × (w ≤ 512) × ((h + 2) * (w + 2) ≤ length cells.old) }
     ensures { cells.new ≡ filled ((h + 2) * (w + 2)) (padded_at (sheet_of cells.old h w)) cells.old }
 {
-    let mut y = h + 2;
-    while y > 0 {
-        y -= 1;
+    for y in (0..h + 2).rev() {
         pad_row(cells, h, w, y);
     }
 }

@@ -15,9 +15,9 @@ ghost use Rattle.refusals.specs.Room.{Room};
 ghost use Rattle.outline.specs.Room.{Present};
 ghost use Rattle.outline.specs.Drawing.{Drew};
 
-use base::Filling;
+use base::Refusal;
 use refusals::{palette_refusal, sheet_refusal};
-use rules::{Drawing, Facts, LineIndex, Outline, Outlining, Size};
+use rules::{Drawing, Facts, Outline, Size};
 
 // Draws the ring, where there is one, and answers the facts.
 fn draw(
@@ -40,7 +40,7 @@ fn draw(
             height: h,
             width: w,
             colours: k,
-            outline_index: LineIndex::Nothing,
+            outline_index: None,
             outline_clipped: clipped,
         };
     }
@@ -54,7 +54,7 @@ fn draw(
         height: h,
         width: w,
         colours: chosen.colours,
-        outline_index: LineIndex::Entry(index as u32),
+        outline_index: Some(index as u32),
         outline_clipped: clipped,
     }
 }
@@ -95,7 +95,7 @@ pub fn add_outline(
     allow_pad: bool,
     fixed_palette: bool,
     work: &mut [u32],
-) -> Outlining
+) -> Result<Facts, Refusal>
     ensures { (let call : OutlineCall = record {
       lent = lent_sheet cells.old h w (length work.old);
       palette = palette_of palette.old k;
@@ -108,14 +108,10 @@ pub fn add_outline(
         fixed_palette,
     };
     let padding = rows::padding(cells, h, w, how);
-    if let Filling::Refused(n) = sheet_refusal(h, w, padding, cells.len(), work.len()) {
-        return Outlining::Refused(n);
-    }
-    if let Filling::Refused(n) = palette_refusal(palette, k, rows::bad_outline(outline)) {
-        return Outlining::Refused(n);
-    }
+    sheet_refusal(h, w, padding, cells.len(), work.len())?;
+    palette_refusal(palette, k, rows::bad_outline(outline))?;
     if rows::no_entry(cells, h, w, k, how, padding) {
-        return Outlining::Refused(8);
+        return Err(Refusal::NoEntries);
     }
-    Outlining::Drawn(outline_sheet(cells, Size { h, w }, palette, k, how, work))
+    Ok(outline_sheet(cells, Size { h, w }, palette, k, how, work))
 }

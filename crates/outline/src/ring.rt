@@ -11,6 +11,7 @@ ghost use Rattle.outline.specs.Rows.{stretch, back, ahead};
 use crate::canvas::solid;
 
 // The place a step before p, the i-th of its line; p itself for the first.
+#[tactic(auto, unfolding(crate::specs::Rows::back))]
 fn back(p: usize, step: usize, i: usize) -> usize
     requires { 0 < i → step ≤ p }
     ensures { result ≡ back p step i }
@@ -22,6 +23,7 @@ fn back(p: usize, step: usize, i: usize) -> usize
 }
 
 // The place a step after p, the i-th of n in its line; p itself for the last.
+#[tactic(auto, unfolding(crate::specs::Rows::ahead))]
 fn ahead(p: usize, step: usize, i: usize, n: usize) -> usize
     requires { (i < n) × (p ≤ 264196) × (step ≤ 514) }
     ensures { result ≡ ahead p step i n }
@@ -30,13 +32,6 @@ fn ahead(p: usize, step: usize, i: usize, n: usize) -> usize
         return p + step;
     }
     p
-}
-
-// Whether one of two holds.
-fn either(a: bool, b: bool) -> bool
-    ensures { result ≡ (a || b) }
-{
-    a || b
 }
 
 // Whether the cell at p, in row y and column x, is of the ring. Off the sheet p itself is read, which adds nothing, so that no read hangs on a test.
@@ -49,7 +44,7 @@ fn ring_at(cells: &[i32], h: usize, w: usize, p: usize, y: usize, x: usize) -> b
     let below = solid(cells, ahead(p, w, y, h));
     let left = solid(cells, back(p, 1, x));
     let right = solid(cells, ahead(p, 1, x, w));
-    let near = either(either(above, below), either(left, right));
+    let near = (above | below) | (left | right);
     if solid(cells, p) {
         return false;
     }
@@ -66,9 +61,9 @@ fn row_has_ring(cells: &[i32], h: usize, w: usize, y: usize) -> bool
     let from = y * w;
     let mut found = ring_at(cells, h, w, from, y, 0);
     for x in 1..last {
-        found = either(ring_at(cells, h, w, from + x, y, x), found);
+        found = ring_at(cells, h, w, from + x, y, x) | found;
     }
-    either(ring_at(cells, h, w, from + last, y, last), found)
+    ring_at(cells, h, w, from + last, y, last) | found
 }
 
 // Whether there is a ring.
@@ -87,13 +82,6 @@ pub fn has_ring(cells: &[i32], h: usize, w: usize) -> bool
     false
 }
 
-// A test as a number.
-fn mark(b: bool) -> u32
-    ensures { result ≡ cond b 1 0 }
-{
-    if b { 1 } else { 0 }
-}
-
 // Marks the cell in row y and column x.
 fn mark_cell(cells: &[i32], h: usize, w: usize, y: usize, x: usize, marks: &mut [u32])
     requires present { Present cells.now h w }
@@ -101,8 +89,7 @@ fn mark_cell(cells: &[i32], h: usize, w: usize, y: usize, x: usize, marks: &mut 
     ensures { marks.new ≡ set marks.old (y * w + x) (cond (ring (sheet_of cells.now h w) (y * w + x)) 1 0) }
 {
     let p = y * w + x;
-    let m = mark(ring_at(cells, h, w, p, y, x));
-    marks[p] = m;
+    marks[p] = u32::from(ring_at(cells, h, w, p, y, x));
 }
 
 // Marks row y. Its ends are apart: between them every cell has one to its left and one to its right.

@@ -13,13 +13,13 @@ use refusals::{bad_darkening, too_large};
 use rules::{Drawing, Outline};
 
 // Whether an outline is asked for.
+#[tactic(auto, unfolding(rules::specs::Outline::asked))]
 pub fn asked(outline: Outline) -> bool
     ensures { result ≡ asked outline }
 {
     match outline {
         Outline::None => false,
-        Outline::Auto(_) => true,
-        Outline::Rgb(_, _, _) => true,
+        Outline::Auto(_) | Outline::Rgb(..) => true,
     }
 }
 
@@ -27,24 +27,15 @@ pub fn asked(outline: Outline) -> bool
 pub fn pads(how: Drawing, touched: bool) -> bool
     ensures { result ≡ (how.allow_pad && asked how.outline && touched) }
 {
-    if !how.allow_pad {
-        return false;
-    }
-    let outline = how.outline;
-    if !asked(outline) {
-        return false;
-    }
-    touched
+    how.allow_pad && asked(how.outline) && touched
 }
 
 // Whether a sheet has sides in range and stands in a list of `len` cells.
+#[tactic(auto, unfolding(crate::specs::Room::present, rules::specs::Rows::too_large))]
 fn present(h: usize, w: usize, len: usize) -> bool
     ensures { result ≡ present h w len }
 {
-    if too_large(h, w) {
-        return false;
-    }
-    h * w <= len
+    !too_large(h, w) && h * w <= len
 }
 
 // Whether padding applies. A sheet that is not there is not read, and not padded: rows 1 and 2 refuse it either way.
@@ -58,24 +49,22 @@ pub fn padding(cells: &[i32], h: usize, w: usize, how: Drawing) -> bool
 }
 
 // Row 6: no outline is asked for, or its darkening is out of range.
+#[tactic(auto, unfolding(rules::specs::Entries::bad_outline))]
 pub fn bad_outline(outline: Outline) -> bool
     ensures { result ≡ bad_outline outline }
 {
-    if !asked(outline) {
-        return true;
-    }
-    bad_darkening(outline)
+    !asked(outline) || bad_darkening(outline)
 }
 
 // Whether the outline's colour needs an entry to be there.
+#[tactic(auto, unfolding(rules::specs::Outline::asked, rules::specs::Rows::is_auto))]
 fn needs_entry(how: Drawing) -> bool
     ensures { result ≡ (asked how.outline && (is_auto how.outline || how.fixed_palette)) }
 {
-    let outline = how.outline;
-    match outline {
+    match how.outline {
         Outline::None => false,
         Outline::Auto(_) => true,
-        Outline::Rgb(_, _, _) => how.fixed_palette,
+        Outline::Rgb(..) => how.fixed_palette,
     }
 }
 

@@ -3,9 +3,8 @@ use Prim.Native.Nat.{ℕ, ◌+◌, ◌≤◌, ◌<◌}
 use mathlib.Core.Path.{◌≡◌, refl, ap, ◌∙◌}
 use mathlib.Core.Bool.{Bool, true, false, cond}
 use mathlib.Core.List.{List}
-use mathlib.Core.Option.{Option, none, some}
+use Rattle.std.specs.Prelude.{Option, None, Some}
 use native.Mathlib.Nat.{lt_of_lt_of_le}
-use native.Mathlib.Omega.{arith}
 use borrow.Author.Tests.{lt-ltb, le-ltb, ltb-true}
 use lib.Dec.{ltb}
 use lib.Ieee.{Float}
@@ -13,40 +12,29 @@ use Rattle.color.specs.declared.Lab.{Lab}
 use Rattle.color.specs.Lab.{lab_to_rgb8}
 use Rattle.rules.specs.Palette.{Palette, colour, recoloured, first_where}
 use Rattle.rules.specs.Outline.{nearest_entry, same_rgb8, reuse, append, replace, choice, chosen_index, chosen_palette}
-use Rattle.outline_entry.specs.declared.Found.TheVariants.{Nowhere, At}
-use Rattle.outline_entry.specs.Line.{found, Chose}
+use Rattle.outline_entry.specs.Line.{Chose}
 use Rattle.outline_entry.proofs.Scans.{nearest-below, where_below}
-
-found_at : (o : Option ℕ) (i : ℕ) → found o ≡ At i → o ≡ some i
-unfolding found
-found_at none i e = let z : ◌≡◌ {A = ℕ} 0 1 = cc in absurd (omega arith)
-found_at (some j) i e = cc
-
-found_none : (o : Option ℕ) → found o ≡ Nowhere → o ≡ none
-unfolding found
-found_none none e = refl
-found_none (some j) e = let z : ◌≡◌ {A = ℕ} 0 1 = cc in absurd (omega arith)
 
 module _ (palette : Palette) (c : Lab) where
   abbrev same : ℕ → Bool
   same i = same_rgb8 (lab_to_rgb8 (colour palette i)) (lab_to_rgb8 c)
 
   by_first : (o : Option ℕ) → first_where same palette.count ≡ o
-      → choice (λ i. true) false palette c ≡ elim o [ some i ↦ reuse i | none ↦ cond (ltb palette.count 256) append (replace (nearest_entry (λ i. true) palette c)) ]
+      → choice (λ i. true) false palette c ≡ elim o [ Some i ↦ reuse i | None ↦ cond (ltb palette.count 256) append (replace (nearest_entry (λ i. true) palette c)) ]
   unfolding choice
-  by_first o e = ap (λ (r : Option ℕ). elim r [ some i ↦ reuse i | none ↦ cond (ltb palette.count 256) append (replace (nearest_entry (λ i. true) palette c)) ]) e
+  by_first o e = ap (λ (r : Option ℕ). elim r [ Some i ↦ reuse i | None ↦ cond (ltb palette.count 256) append (replace (nearest_entry (λ i. true) palette c)) ]) e
 
   pub chose_fixed : (i : ℕ) → i ≡ nearest_entry (λ i. true) palette c → Chose palette c (choice (λ i. true) true palette c) i palette.count palette.lab
   unfolding choice chosen_index chosen_palette
   chose_fixed i e = record { at = e; colours = refl; doubles = refl }
 
-  pub chose_same : (i : ℕ) → found (first_where same palette.count) ≡ At i → Chose palette c (choice (λ i. true) false palette c) i palette.count palette.lab
+  pub chose_same : (i : ℕ) → first_where same palette.count ≡ Some i → Chose palette c (choice (λ i. true) false palette c) i palette.count palette.lab
   unfolding chosen_index chosen_palette
-  chose_same i e = rw (by_first (some i) (found_at _ i e)) (record { at = refl; colours = refl; doubles = refl })
+  chose_same i e = rw (by_first (Some i) e) (record { at = refl; colours = refl; doubles = refl })
 
-  module _ (e : found (first_where same palette.count) ≡ Nowhere) where
+  module _ (e : first_where same palette.count ≡ None) where
     at_last : {b : Bool} → ltb palette.count 256 ≡ b → choice (λ i. true) false palette c ≡ cond b append (replace (nearest_entry (λ i. true) palette c))
-    at_last t = by_first none (found_none _ e) ∙ ap (λ (b : Bool). cond b append (replace (nearest_entry (λ i. true) palette c))) t
+    at_last t = by_first None e ∙ ap (λ (b : Bool). cond b append (replace (nearest_entry (λ i. true) palette c))) t
 
     pub chose_append : (lab : List Float) → palette.count < 256 → lab ≡ recoloured palette.lab palette.count c → Chose palette c (choice (λ i. true) false palette c) palette.count (palette.count + 1) lab
     unfolding chosen_index chosen_palette
@@ -70,7 +58,7 @@ index_below may false palette c h = go (first_where same palette.count) (where_b
     room true e = ltb-true palette.count 256 e
     room false e = nearest-below may palette c h
 
-    go : (o : Option ℕ) → ((b : ℕ) → o ≡ some b → b < palette.count)
-        → chosen_index palette (elim o [ some i ↦ reuse i | none ↦ cond (ltb palette.count 256) append (replace (nearest_entry may palette c)) ]) < 256
-    go (some i) f = lt_of_lt_of_le (f i refl) h
-    go none f = room (ltb palette.count 256) refl
+    go : (o : Option ℕ) → ((b : ℕ) → o ≡ Some b → b < palette.count)
+        → chosen_index palette (elim o [ Some i ↦ reuse i | None ↦ cond (ltb palette.count 256) append (replace (nearest_entry may palette c)) ]) < 256
+    go (Some i) f = lt_of_lt_of_le (f i refl) h
+    go None f = room (ltb palette.count 256) refl

@@ -2,41 +2,45 @@
 #![tactic(auto)]
 
 ghost use Rattle.std.specs.Prelude.{◌≡◌, true, ◌+◌, ◌*◌, ◌<◌, ◌≤◌, length};
-ghost use Rattle.channel.specs.Channel.{ThresholdTable};
 ghost use Rattle.color.specs.Lab.{lab_to_rgb8};
 ghost use Rattle.rules.specs.Palette.{palette_of, colour, recoloured, first_where};
 ghost use Rattle.rules.specs.Outline.{darkest, darkened, line_colour, nearest_entry, same_rgb8, choice};
-ghost use Rattle.outline_entry.specs.Line.{lowered, placed, found, Chose};
+ghost use Rattle.outline_entry.specs.Line.{lowered, placed, Chose};
 
-use channel::threshold_table;
-use color::cielab::{distance, entry, lab_to_rgb8_by, lab_to_rgb8_one, rgb8_to_lab_one};
+use color::cielab::{distance, entry, lab_to_rgb8_one, rgb8_to_lab_one};
 use color::{Lab, Rgb8};
 use rules::Outline;
 
-// The least value that a scan has met, and where it stands.
-#[derive(Clone, Copy)]
-pub enum Least {
-    Nothing,
-    At(usize, f64),
+// A value that a scan has met, and where it stands.
+#[derive(Clone, Copy, Debug, PartialEq)]
+pub struct Met {
+    pub at: usize,
+    pub value: f64,
 }
 
-// One more value, x at i: it is taken if it is less.
-fn lower(best: Least, i: usize, x: f64) -> Least
-    ensures { result ≡ lowered best i x }
+// The least value so far, with one more: that is taken if it is less.
+#[tactic(auto, unfolding(crate::specs::Line::lowered))]
+fn lower(best: Option<Met>, next: Met) -> Met
+    ensures { result ≡ lowered best next }
 {
-    match best {
-        Least::Nothing => Least::At(i, x),
-        Least::At(_, y) => if x < y { Least::At(i, x) } else { best },
+    let Some(least) = best else {
+        return next;
+    };
+    if next.value < least.value {
+        next
+    } else {
+        least
     }
 }
 
 // Where the least value stands, 0 where there is none.
-fn place(best: Least) -> usize
+#[tactic(auto, unfolding(crate::specs::Line::placed))]
+fn place(best: Option<Met>) -> usize
     ensures { result ≡ placed best }
 {
     match best {
-        Least::Nothing => 0,
-        Least::At(i, _) => i,
+        Some(least) => least.at,
+        None => 0,
     }
 }
 
@@ -45,9 +49,10 @@ fn darkest(palette: &[f64], k: usize) -> usize
     requires { (3 * k ≤ length palette.now) × (k ≤ 256) }
     ensures { result ≡ darkest (palette_of palette.now k) }
 {
-    let mut best = Least::Nothing;
+    let mut best = None;
     for i in 0..k {
-        best = lower(best, i, palette[3 * i]);
+        let value = palette[3 * i];
+        best = Some(lower(best, Met { at: i, value }));
     }
     place(best)
 }
@@ -57,10 +62,10 @@ fn nearest_entry(palette: &[f64], k: usize, c: Lab) -> usize
     requires { (3 * k ≤ length palette.now) × (k ≤ 256) }
     ensures { result ≡ nearest_entry (λ i. true) (palette_of palette.now k) c }
 {
-    let mut best = Least::Nothing;
+    let mut best = None;
     for i in 0..k {
-        let d = distance(entry(palette, i), c);
-        best = lower(best, i, d);
+        let value = distance(entry(palette, i), c);
+        best = Some(lower(best, Met { at: i, value }));
     }
     place(best)
 }
@@ -92,49 +97,21 @@ pub fn outline_color_lab(palette: &[f64], k: usize, outline: Outline) -> Lab
     }
 }
 
-fn same_rgb8(x: Rgb8, y: Rgb8) -> bool
-    ensures { result ≡ same_rgb8 x y }
-{
-    if x.r != y.r {
-        return false;
-    }
-    if x.g != y.g {
-        return false;
-    }
-    x.b == y.b
-}
-
-// A place that was looked for.
-#[derive(Clone, Copy)]
-pub enum Found {
-    At(usize),
-    Nowhere,
-}
-
-// The first entry with an RGB8, by a table that was made before.
-fn first_same_by(table: &[u64], palette: &[f64], k: usize, rgb: Rgb8) -> Found
-    requires threshold_table { ThresholdTable table.now }
-    requires k_in_bounds { (3 * k ≤ length palette.now) × (k ≤ 256) }
-    ensures { result ≡ found (first_where (λ i. same_rgb8 (lab_to_rgb8 (colour (palette_of palette.now k) i)) rgb) k) }
+// The first entry with an RGB8.
+fn first_same(palette: &[f64], k: usize, rgb: Rgb8) -> Option<usize>
+    requires { (3 * k ≤ length palette.now) × (k ≤ 256) }
+    ensures { result ≡ first_where (λ i. same_rgb8 (lab_to_rgb8 (colour (palette_of palette.now k) i)) rgb) k }
 {
     for i in 0..k {
-        if same_rgb8(lab_to_rgb8_by(table, entry(palette, i)), rgb) {
-            return Found::At(i);
+        if lab_to_rgb8_one(entry(palette, i)) == rgb {
+            return Some(i);
         }
     }
-    Found::Nowhere
-}
-
-// The first entry with an RGB8.
-fn first_same(palette: &[f64], k: usize, rgb: Rgb8) -> Found
-    requires { (3 * k ≤ length palette.now) × (k ≤ 256) }
-    ensures { result ≡ found (first_where (λ i. same_rgb8 (lab_to_rgb8 (colour (palette_of palette.now k) i)) rgb) k) }
-{
-    let table = threshold_table();
-    first_same_by(&table, palette, k, rgb)
+    None
 }
 
 // Writes a colour to the entry i.
+#[tactic(auto, unfolding(rules::specs::Palette::recoloured))]
 fn recolour(palette: &mut [f64], i: usize, c: Lab)
     requires { 3 * i + 2 < length palette.old }
     ensures { palette.new ≡ recoloured palette.old i c }
@@ -145,7 +122,7 @@ fn recolour(palette: &mut [f64], i: usize, c: Lab)
 }
 
 // The entry that carries the outline's colour, and how many entries there are with it.
-#[derive(Clone, Copy)]
+#[derive(Clone, Copy, Debug, PartialEq, Eq)]
 pub struct Chosen {
     pub index: usize,
     pub colours: usize,
@@ -160,17 +137,11 @@ pub fn choose(palette: &mut [f64], k: usize, c: Lab, fixed: bool) -> Chosen
     ensures { Chose (palette_of palette.old k) c (choice (λ i. true) fixed (palette_of palette.old k) c) result.index result.colours palette.new }
 {
     if fixed {
-        let i = nearest_entry(palette, k, c);
-        return Chosen {
-            index: i,
-            colours: k,
-        };
+        let index = nearest_entry(palette, k, c);
+        return Chosen { index, colours: k };
     }
-    if let Found::At(i) = first_same(palette, k, lab_to_rgb8_one(c)) {
-        return Chosen {
-            index: i,
-            colours: k,
-        };
+    if let Some(index) = first_same(palette, k, lab_to_rgb8_one(c)) {
+        return Chosen { index, colours: k };
     }
     if k < ENTRIES {
         recolour(palette, k, c);
@@ -179,10 +150,7 @@ pub fn choose(palette: &mut [f64], k: usize, c: Lab, fixed: bool) -> Chosen
             colours: k + 1,
         };
     }
-    let i = nearest_entry(palette, k, c);
-    recolour(palette, i, c);
-    Chosen {
-        index: i,
-        colours: k,
-    }
+    let index = nearest_entry(palette, k, c);
+    recolour(palette, index, c);
+    Chosen { index, colours: k }
 }
