@@ -3,25 +3,26 @@ use Prim.Native.Nat.{ℕ, ◌*◌, ◌≤◌}
 use mathlib.Core.Path.{◌≡◌, refl, sym, ap, ◌∙◌, subst}
 use mathlib.Core.Bool.{Bool, true, false, ◌||◌, cond}
 use mathlib.Core.List.{List}
-use mathlib.Core.Option.{none, some}
+use Rattle.std.specs.Prelude.{None, Some, Result, Ok, Err}
 use native.Mathlib.Omega.{arith}
 use lib.IntN.{ℤ, pos}
 use lib.Signed.{le_z}
 use lib.ListN.{length}
 use lib.Ieee.{Float}
+use Rattle.base.specs.declared.Refusal.{Refusal}
 use Rattle.base.specs.Places.{any}
+use Rattle.base.specs.Refusals.{answered}
 use Rattle.base.proofs.Counting.{any_same}
 use Rattle.base.proofs.Refusing.{some_unless, none_unless}
 use Rattle.rules.specs.declared.Limits.{Limits}
 use Rattle.rules.specs.declared.Facts.{Facts}
-use Rattle.rules.specs.declared.Processing.{Processing}
-use Rattle.rules.specs.declared.Processing.TheVariants.{Processed, Refused}
+use Rattle.rules.specs.declared.Processed.{Processed}
 use Rattle.rules.specs.Sheet.{Sheet, area, sheet_of, sheet_in, over, needed}
 use Rattle.rules.specs.Palette.{Palette, palette_of}
 use Rattle.rules.specs.Corners.{trim}
 use Rattle.rules.specs.Outline.{asked, pads, canvas, ring, has_ring, Outlined}
 use Rattle.rules.specs.Calls.{RunCall}
-use Rattle.rules.specs.Run.{CleanedSheet, clean_sheet_if, limits_of, toned, toned_palette, drawing_of, outline_if, first_cleaning, outlined_run, cleans_again, second_cleaning, Result, process}
+use Rattle.rules.specs.Run.{CleanedSheet, clean_sheet_if, limits_of, toned, toned_palette, drawing_of, outline_if, first_cleaning, outlined_run, cleans_again, second_cleaning, Processing, process}
 use Rattle.rules.specs.Rows.{bad_index, no_entry}
 use Rattle.rules.specs.Entries.{facts_of, run_refusal, run_answer, run_cells, run_palette}
 use Rattle.rules.proofs.Sizes.{needed-least, canvas-area, canvas_sides, toned-count, toned-length}
@@ -44,11 +45,11 @@ ring-alike {s} {t} k = ap (λ (n : ℕ). any n (ring t)) (area_same k) ∙ any_s
 -- ---- what the steps of a call come to
 
 -- the three promises of a call, of its answer, of the cells and of the doubles
-abbrev pub Met : RunCall → Processing → List ℤ → List Float → Type 0
+abbrev pub Met : RunCall → Result Processed Refusal → List ℤ → List Float → Type 0
 Met x answer cells lab = (answer ≡ run_answer x) × (cells ≡ run_cells x) × (lab ≡ run_palette x)
 
 -- what an accepted call leaves, with so many cells lent: sides and colours in range, cells within the lent ones, and all doubles
-pub record Left (r : Result) (lent : ℕ) : Type 0 where
+pub record Left (r : Processing) (lent : ℕ) : Type 0 where
   pub high : r.sheet.height ≤ 514
   pub wide : r.sheet.width ≤ 514
   pub held : r.sheet.height * r.sheet.width ≤ lent
@@ -56,8 +57,8 @@ pub record Left (r : Result) (lent : ℕ) : Type 0 where
   pub full : length r.palette.lab ≡ 768
 
 -- a call that is refused leaves both lists
-pub met_refused : (x : RunCall) (n : ℕ) → run_refusal x ≡ some n → Met x (Refused n) x.lent.cells x.palette.lab
-unfolding run_answer run_cells run_palette
+pub met_refused : (x : RunCall) (n : Refusal) → run_refusal x ≡ Some n → Met x (Err n) x.lent.cells x.palette.lab
+unfolding run_answer answered run_cells run_palette
 met_refused x n e = (some_unless _ _ e, some_unless _ _ e, some_unless _ _ e)
 
 module _ (x : RunCall) where
@@ -128,7 +129,7 @@ module _ (x : RunCall) where
 
   -- ---- the steps of a call that is accepted
 
-  module _ (ok : run_refusal x ≡ none) where
+  module _ (ok : run_refusal x ≡ None) where
     g : Granted x
     g = granting x ok
 
@@ -327,9 +328,9 @@ module _ (x : RunCall) where
 
       -- all of it is the rule
       pub met_processed : {facts : Facts} {n m : ℕ} {new : List ℤ} → n ≡ (clean_sheet_if on 5 ink limits came).passes → Told facts
-          → m ≡ (redo (sheet_of cells h w) (palette_of lab k)).passes → new ≡ over (redo (sheet_of cells h w) (palette_of lab k)).sheet.cells cells → Met x (Processed facts n m) new lab
-      unfolding run_answer run_cells run_palette process first_cleaning second_cleaning
+          → m ≡ (redo (sheet_of cells h w) (palette_of lab k)).passes → new ≡ over (redo (sheet_of cells h w) (palette_of lab k)).sheet.cells cells → Met x (Ok (record { facts = facts; passes = n; again = m })) new lab
+      unfolding run_answer answered run_cells run_palette process first_cleaning second_cleaning
       met_processed once is more e =
           let twice = more ∙ reads a (λ t q. (redo t q).passes) in
           let last = keeps a (λ t q. (redo t q).sheet) alike-second e in
-          (none_unless _ _ ok (λ i. Processed (told-second is i) (once i) (twice i)), none_unless _ _ ok last.stands.is, none_unless _ _ ok (ap (λ (q : Palette). q.lab) a.palette))
+          (none_unless _ _ ok (λ i. Ok (record { facts = told-second is i; passes = once i; again = twice i })), none_unless _ _ ok last.stands.is, none_unless _ _ ok (ap (λ (q : Palette). q.lab) a.palette))

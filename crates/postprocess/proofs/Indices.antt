@@ -3,7 +3,7 @@ use Prim.Native.Nat.{ℕ, zero, suc, ◌+◌, ◌-◌, ◌*◌, ◌/◌, ◌%◌
 use mathlib.Core.Path.{◌≡◌, refl, ap, ◌∙◌}
 use mathlib.Core.Bool.{Bool, true, false, ◌&&◌, ◌||◌, cond}
 use mathlib.Core.List.{List, [], ◌∷◌}
-use mathlib.Core.Option.{Option, none, some}
+use Rattle.std.specs.Prelude.{Option, None, Some}
 use native.Mathlib.Decide.{dec_lt}
 use native.Mathlib.Omega.{arith}
 use lib.Dec.{leb, ltb}
@@ -109,9 +109,9 @@ module _ (s : Sheet) {k : ℕ} (a : Named k s.cells) where
   unfolding opposite look
   opposite_named p c = go (step_to s.height s.width (p / s.width) (p % s.width) (neg_ℤ c.sy) (neg_ℤ c.sx))
     where
-      go : (o : Option ℕ) → le_z (pos k) (elim (elim o as (λ x. Option ℤ) [ none ↦ none | some q ↦ some (at s.cells q) ]) [ none ↦ negsuc 0 | some b ↦ b ]) ≡ false
-      go none = refl
-      go (some q) = a.below q
+      go : (o : Option ℕ) → le_z (pos k) (elim (elim o as (λ x. Option ℤ) [ None ↦ None | Some q ↦ Some (at s.cells q) ]) [ None ↦ negsuc 0 | Some b ↦ b ]) ≡ false
+      go None = refl
+      go (Some q) = a.below q
 
   trimmed_by_named : (p : ℕ) (cs : List Corner) (z : ℤ) → le_z (pos k) z ≡ false → le_z (pos k) (trimmed_by s p cs z) ≡ false
   unfolding trimmed_by

@@ -3,7 +3,7 @@ use Prim.Native.Nat.{ℕ, ◌≤◌, ◌<◌}
 use mathlib.Core.Path.{◌≡◌, refl}
 use mathlib.Core.Bool.{Bool, true, false, ◌&&◌, ◌||◌, cond}
 use mathlib.Core.List.{List}
-use mathlib.Core.Option.{Option, none, some}
+use Rattle.std.specs.Prelude.{Option, None, Some}
 use native.Mathlib.Nat.{le_refl}
 use native.Mathlib.Decide.{dec_lt}
 use native.Mathlib.Omega.{arith}
@@ -66,10 +66,10 @@ made may false palette c f = go (first_where same palette.count) (where_below sa
     room true e = appended (ltb-true palette.count 256 e)
     room false e = replaced (nearest_in may palette c (omega (arith, ltb-false palette.count 256 e)))
 
-    go : (o : Option ℕ) → ((b : ℕ) → o ≡ some b → b < palette.count)
-        → Made palette (elim o [ some i ↦ reuse i | none ↦ cond (ltb palette.count 256) append (replace (nearest_entry may palette c)) ])
-    go none g = room (ltb palette.count 256) refl
-    go (some i) g = reused (g i refl)
+    go : (o : Option ℕ) → ((b : ℕ) → o ≡ Some b → b < palette.count)
+        → Made palette (elim o [ Some i ↦ reuse i | None ↦ cond (ltb palette.count 256) append (replace (nearest_entry may palette c)) ])
+    go None g = room (ltb palette.count 256) refl
+    go (Some i) g = reused (g i refl)
 
 -- ---- the outline call
 

@@ -9,7 +9,7 @@ use lib.ListN.{length}
 use borrow.Author.Tests.{not-true, not-false}
 use Rattle.rules.specs.declared.PostConfig.{PostConfig}
 use Rattle.rules.specs.declared.Facts.{Facts}
-use Rattle.rules.specs.declared.LineIndex.TheVariants.{Nothing}
+use Rattle.std.specs.Prelude.{None}
 use Rattle.rules.specs.declared.Limits.{Limits}
 use Rattle.rules.specs.declared.Drawing.{Drawing}
 use Rattle.rules.specs.Sheet.{sheet_of, over}
@@ -83,7 +83,7 @@ module _ (how : Drawing) (palette : Palette) (l : List ℤ) (h w : ℕ) where
 
   -- none is asked for
   pub unlined : {facts : Facts} → h * w ≤ length l → asked how.outline ≡ false
-      → facts ≡ record { height = h; width = w; colours = palette.count; outline_index = Nothing; outline_clipped = false } → Line facts l palette.lab
+      → facts ≡ record { height = h; width = w; colours = palette.count; outline_index = None; outline_clipped = false } → Line facts l palette.lab
   unfolding outline_if facts_of sheet_of
   unlined fits z e = rw z (record { told = e; cells = (stands_start l h w fits).is; doubles = refl })
 

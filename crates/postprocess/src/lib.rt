@@ -10,8 +10,8 @@ ghost use Rattle.rules.specs.Calls.{RunCall};
 ghost use Rattle.rules.specs.Entries.{run_answer, run_cells, run_palette};
 
 use crate::steps::{clean_again, clean_if, outline_if, tone_unless, trim_if};
-use base::Filling;
-use rules::{PostConfig, Processing, Size};
+use base::Refusal;
+use rules::{PostConfig, Processed, Size};
 use run_refusals::{Options, drawing, kept, run_refusal};
 
 // The passes of the first cleaning.
@@ -29,7 +29,7 @@ pub fn run(
     fixed_palette: bool,
     outline_margin: i32,
     work: &mut [u32],
-) -> Processing
+) -> Result<Processed, Refusal>
     ensures { (let call : RunCall = record {
       lent = lent_sheet cells.old h w (length work.old);
       palette = palette_of palette.old k;
@@ -45,9 +45,7 @@ pub fn run(
         fixed_palette,
         outline_margin,
     };
-    if let Filling::Refused(n) = run_refusal(cells, h, w, palette, k, o, work.len()) {
-        return Processing::Refused(n);
-    }
+    run_refusal(cells, h, w, palette, k, o, work.len())?;
     let size = Size { h, w };
     tone_unless(kept(saturated, fixed_palette), palette, k, config);
     let passes = clean_if(cells, size, palette, k, config, ORPHAN_MAX_PASSES, work);
@@ -55,5 +53,9 @@ pub fn run(
     let how = drawing(config, fixed_palette, outline_margin);
     let facts = outline_if(cells, size, palette, k, how, work);
     let again = clean_again(cells, facts, palette, config, work);
-    Processing::Processed(facts, passes, again)
+    Ok(Processed {
+        facts,
+        passes,
+        again,
+    })
 }

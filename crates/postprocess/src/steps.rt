@@ -13,7 +13,7 @@ use jaggies::trim_sheet;
 use orphans::clean_sheet;
 use outline::outline_sheet;
 use outline::rows::asked;
-use rules::{Drawing, Facts, Limits, LineIndex, PostConfig, Size};
+use rules::{Drawing, Facts, Limits, PostConfig, Size};
 use saturation::scaling::saturate;
 
 // Saturates the palette, unless it is kept.
@@ -63,13 +63,13 @@ pub fn trim_if(cells: &mut [i32], h: usize, w: usize, config: PostConfig, work: 
 
 // The facts of a sheet without an outline.
 fn plain(h: usize, w: usize, k: usize) -> Facts
-    ensures { result ≡ record { height = h; width = w; colours = k; outline_index = LineIndex.Nothing; outline_clipped = false } }
+    ensures { result ≡ record { height = h; width = w; colours = k; outline_index = None; outline_clipped = false } }
 {
     Facts {
         height: h,
         width: w,
         colours: k,
-        outline_index: LineIndex::Nothing,
+        outline_index: None,
         outline_clipped: false,
     }
 }

@@ -7,6 +7,7 @@ use lib.IntN.{ℤ, pos}
 use lib.Signed.{le_z}
 use Rattle.base.specs.Places.{any}
 use Rattle.base.proofs.Counting.{any_same}
+use Rattle.base.specs.declared.Refusal.TheVariants.{SettingOutOfRange}
 use Rattle.base.specs.Refusals.{row, refusal}
 use Rattle.refusals.proofs.Rows.{setting_in_two}
 use Rattle.rules.specs.declared.PostConfig.{PostConfig}
@@ -67,6 +68,6 @@ module _ (config : PostConfig) (kept : Bool) (palette : Palette) where
   new_tones z = rw z
 
   -- row 6 in two parts: the settings' ranges, and the doubles that saturation leaves
-  pub in_two : refusal (palette_rows palette (bad_config config kept palette)) ≡ refusal (palette_rows palette (bad_ranges config) ++ row 6 (out_of_range (toned kept config palette)) ∷ [])
+  pub in_two : refusal (palette_rows palette (bad_config config kept palette)) ≡ refusal (palette_rows palette (bad_ranges config) ++ row SettingOutOfRange (out_of_range (toned kept config palette)) ∷ [])
   unfolding bad_config
   in_two = setting_in_two palette (bad_ranges config) (out_of_range (toned kept config palette))

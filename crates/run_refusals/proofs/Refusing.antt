@@ -2,7 +2,7 @@
 use Prim.Native.Nat.{◌≤◌}
 use mathlib.Core.Path.{◌≡◌}
 use mathlib.Core.Bool.{Bool, false}
-use mathlib.Core.Option.{none}
+use Rattle.std.specs.Prelude.{None}
 use lib.ListN.{length}
 use Rattle.base.proofs.Counting.{neither}
 use Rattle.base.proofs.Refusing.{rows_none}
@@ -29,7 +29,7 @@ module _ (c : RunCall) where
     pub indices : (bad_index c.config.remove_orphans c.config.orphan_min_region c.palette (sheet_in c.lent)).applies ≡ false
     pub entry : (no_entry (drawing_of c) c.palette (canvas padding (sheet_in c.lent))).applies ≡ false
 
-  pub granting : run_refusal c ≡ none → Granted
+  pub granting : run_refusal c ≡ None → Granted
   unfolding run_refusal bad_config toned_palette
   granting e =
       let sheet = sheet_room _ e in

@@ -3,7 +3,7 @@
 
 ghost use Rattle.std.specs.Prelude.{◌≡◌, ◌||◌, [], ◌≤◌, pos};
 ghost use Rattle.std.specs.Int.Signed.{le_z};
-ghost use Rattle.base.specs.Refusals.{refusal, filling};
+ghost use Rattle.base.specs.Refusals.{refusal, answered};
 ghost use Rattle.rules.specs.Sheet.{lent_sheet, sheet_of};
 ghost use Rattle.rules.specs.Palette.{palette_of};
 ghost use Rattle.rules.specs.Run.{pad_allowed};
@@ -11,14 +11,14 @@ ghost use Rattle.rules.specs.Rows.{palette_rows, bad_index};
 ghost use Rattle.rules.specs.Entries.{bad_ranges, bad_config, run_refusal};
 ghost use Rattle.outline.specs.Room.{Present};
 
-use base::Filling;
+use base::Refusal;
 use outline::rows::{no_entry, padding};
 use refusals::{bad_darkening, bad_index, between, limit_in_range, palette_refusal, sheet_refusal};
 use rules::{Drawing, PostConfig};
 use saturation::scaling::scaled_too_far;
 
 // What `run` is told besides the sheet and the palette.
-#[derive(Clone, Copy)]
+#[derive(Clone, Copy, Debug, PartialEq)]
 pub struct Options {
     pub config: PostConfig,
     pub saturated: bool,
@@ -71,21 +71,24 @@ fn bad_ranges(config: PostConfig) -> bool
 }
 
 // Rows 4 to 6: the palette and the settings; and saturation, where it applies, carries no double out of range.
-fn settings_refusal(palette: &[f64], k: usize, config: PostConfig, kept: bool) -> Filling
-    ensures { result ≡ filling (refusal (palette_rows (palette_of palette.now k) (bad_config config kept (palette_of palette.now k)))) }
+fn settings_refusal(
+    palette: &[f64],
+    k: usize,
+    config: PostConfig,
+    kept: bool,
+) -> Result<(), Refusal>
+    ensures { result ≡ answered (refusal (palette_rows (palette_of palette.now k) (bad_config config kept (palette_of palette.now k)))) tt }
 {
-    if let Filling::Refused(n) = palette_refusal(palette, k, bad_ranges(config)) {
-        return Filling::Refused(n);
-    }
+    palette_refusal(palette, k, bad_ranges(config))?;
     // Saturation scales a palette unless it is kept.
     let scaled = !kept;
     if !scaled {
-        return Filling::Done;
+        return Ok(());
     }
     if scaled_too_far(palette, k, config.saturation_beta) {
-        return Filling::Refused(6);
+        return Err(Refusal::SettingOutOfRange);
     }
-    Filling::Done
+    Ok(())
 }
 
 // Whether a region limit lets a pass repaint anything.
@@ -120,31 +123,27 @@ pub fn run_refusal(
     k: usize,
     o: Options,
     work: usize,
-) -> Filling
-    ensures { result ≡ filling (run_refusal (record {
+) -> Result<(), Refusal>
+    ensures { result ≡ answered (run_refusal (record {
       lent = lent_sheet cells.now h w work;
       palette = palette_of palette.now k;
       config = o.config;
       saturated = o.saturated;
       fixed = o.fixed_palette;
       margin = o.outline_margin;
-    })) }
+    })) tt }
 {
     let config = o.config;
     let how = drawing(config, o.fixed_palette, o.outline_margin);
     let padded = padding(cells, h, w, how);
-    if let Filling::Refused(n) = sheet_refusal(h, w, padded, cells.len(), work) {
-        return Filling::Refused(n);
-    }
+    sheet_refusal(h, w, padded, cells.len(), work)?;
     let kept = kept(o.saturated, o.fixed_palette);
-    if let Filling::Refused(n) = settings_refusal(palette, k, config, kept) {
-        return Filling::Refused(n);
-    }
+    settings_refusal(palette, k, config, kept)?;
     if bad_index_met(cells, h, w, k, config) {
-        return Filling::Refused(7);
+        return Err(Refusal::NoSuchEntry);
     }
     if no_entry(cells, h, w, k, how, padded) {
-        return Filling::Refused(8);
+        return Err(Refusal::NoEntries);
     }
-    Filling::Done
+    Ok(())
 }

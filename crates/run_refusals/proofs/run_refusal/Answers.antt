@@ -1,0 +1,177 @@
+-- Rows 1 to 3, rows 4 to 6, and the two that read the cells. Assumes nothing.
+use Prim.Native.Nat.{ℕ, ◌≤◌}
+use mathlib.Core.Path.{◌≡◌, refl, sym, ap, ◌∙◌}
+use mathlib.Core.Bool.{Bool, true, false, ◌&&◌, ◌||◌}
+use mathlib.Core.List.{List, [], ◌∷◌}
+use Rattle.std.specs.Prelude.{None, Some, Result, Ok, Err}
+use Rattle.std.proofs.Common.{rules, arith, to_z-of_z, to_z, of_z, w32}
+use lib.IntN.{ℤ}
+use lib.ListN.{length}
+use lib.Ieee.{Float}
+use Rattle.base.specs.declared.Refusal.{Refusal}
+use Rattle.base.specs.declared.Refusal.TheVariants.{NoSuchEntry, NoEntries}
+use Rattle.base.specs.Refusals.{Row, refusal, answered}
+use Rattle.base.proofs.Refusing.{row_hit, row-pass, row_last, rows_hit, rows_pass, some_answered, none_answered, answered_some, answered_none}
+use Rattle.rules.specs.declared.Drawing.{Drawing}
+use Rattle.rules.specs.Sheet.{lent_sheet, sheet_in, needed}
+use Rattle.rules.specs.Palette.{palette_of}
+use Rattle.rules.specs.Outline.{touches, pads, canvas}
+use Rattle.rules.specs.Calls.{RunCall}
+use Rattle.rules.specs.Run.{pad_allowed, drawing_of}
+use Rattle.rules.specs.Rows.{sheet_rows, palette_rows, bad_index, no_entry}
+use Rattle.rules.specs.Entries.{lent_rows, bad_config, run_refusal}
+use Rattle.refusals.specs.Room.{Room}
+use Rattle.refusals.proofs.Rows.{sheet_room, palette_room}
+use Rattle.outline.specs.Room.{present}
+use Rattle.outline.proofs.Refusing.{padded_rows, padded-is, seated, pad_touches}
+use Rattle.run_refusals.specs.declared.Options.{Options}
+use Rattle.run_refusals.proofs.Refusing.{padding}
+use Rattle.run_refusals.proofs.run_refusal.Goals as goal
+
+module _ (k : RunCall) {margin : ℤ} (back : margin ≡ k.margin) {how : Drawing} (drawn : how ≡ record { outline = k.config.outline; allow_pad = pad_allowed k.config margin; fixed_palette = k.fixed }) where
+  -- how its outline is drawn
+  as_drawn : how ≡ drawing_of k
+  unfolding drawing_of
+  as_drawn = drawn ∙ ap (λ (z : ℤ). record { outline = k.config.outline; allow_pad = pad_allowed k.config z; fixed_palette = k.fixed }) back
+
+  -- ---- rows 1 to 3
+  module _ {padded : Bool} (is : padded ≡ (present k.lent.height k.lent.width (length k.lent.cells) && pads how (sheet_in k.lent))) where
+    as_padded : padded ≡ (present k.lent.height k.lent.width (length k.lent.cells) && padding k)
+    as_padded = is ∙ ap (λ (d : Drawing). present k.lent.height k.lent.width (length k.lent.cells) && pads d (sheet_in k.lent)) as_drawn
+
+    abbrev Sheet_rows : List Row
+    Sheet_rows = sheet_rows k.lent.height k.lent.width (needed k.lent.height k.lent.width padded) (length k.lent.cells) k.lent.work
+
+    by_sheet : {n : Refusal} → ◌≡◌ {A = Result (Unit {0}) Refusal} (Err n) (answered (refusal Sheet_rows) tt) → run_refusal k ≡ Some n
+    unfolding run_refusal
+    by_sheet e =
+        rows_hit _ _ (sym (padded_rows (drawing_of k) k.lent.cells k.lent.height k.lent.width k.lent.work as_padded) ∙ answered_some (tt {0}) e refl)
+
+    module _ (first : ◌≡◌ {A = Result (Unit {0}) Refusal} (Ok tt) (answered (refusal Sheet_rows) tt)) where
+      sheet_passes : refusal (lent_rows k.lent (padding k)) ≡ None
+      sheet_passes = sym (padded_rows (drawing_of k) k.lent.cells k.lent.height k.lent.width k.lent.work as_padded) ∙ answered_none (tt {0}) first refl
+
+      room : Room k.lent.height k.lent.width (needed k.lent.height k.lent.width (padding k)) (length k.lent.cells) k.lent.work
+      room = (sheet_room _ sheet_passes).0
+
+      padding-is : padded ≡ padding k
+      padding-is = padded-is (drawing_of k) k.lent.cells k.lent.height k.lent.width k.lent.work as_padded sheet_passes
+
+      touched : padded ≡ true → touches (sheet_in k.lent) ≡ true
+      touched y = pad_touches (drawing_of k) (sheet_in k.lent) (sym padding-is ∙ y)
+
+      -- ---- rows 4 to 6
+      module _ {kept : Bool} (told : kept ≡ (k.saturated || k.fixed)) where
+        abbrev Settings : Bool → List Row
+        Settings b = palette_rows k.palette (bad_config k.config b k.palette)
+
+        by_settings : {n : Refusal} → ◌≡◌ {A = Result (Unit {0}) Refusal} (Err n) (answered (refusal (Settings kept)) tt) → run_refusal k ≡ Some n
+        unfolding run_refusal
+        by_settings e = rows_pass _ _ sheet_passes ∙ rows_hit _ _ (ap (λ (b : Bool). refusal (Settings b)) (sym told) ∙ answered_some (tt {0}) e refl)
+
+        module _ (second : ◌≡◌ {A = Result (Unit {0}) Refusal} (Ok tt) (answered (refusal (Settings kept)) tt)) where
+          settings_pass : refusal (Settings (k.saturated || k.fixed)) ≡ None
+          settings_pass = ap (λ (b : Bool). refusal (Settings b)) (sym told) ∙ answered_none (tt {0}) second refl
+
+          few : k.palette.count ≤ 256
+          few = (palette_room _ settings_pass).0.few
+
+          -- ---- rows 7 and 8
+          abbrev seventh : Row
+          seventh = bad_index k.config.remove_orphans k.config.orphan_min_region k.palette (sheet_in k.lent)
+
+          abbrev eighth : Row
+          eighth = no_entry (drawing_of k) k.palette (canvas (padding k) (sheet_in k.lent))
+
+          past : run_refusal k ≡ refusal (seventh ∷ eighth ∷ [])
+          unfolding run_refusal
+          past = rows_pass _ _ sheet_passes ∙ rows_pass _ _ settings_pass
+
+          module _ {met : Bool} (index : met ≡ seventh.applies) where
+            by_index : met ≡ true → run_refusal k ≡ Some NoSuchEntry
+            unfolding bad_index
+            by_index y = past ∙ row_hit _ _ (sym index ∙ y)
+
+            module _ (z : met ≡ false) {none : Bool} (e : none ≡ (no_entry how (palette_of [] k.palette.count) (canvas padded (sheet_in k.lent))).applies) where
+              past_7 : run_refusal k ≡ refusal (eighth ∷ [])
+              past_7 = past ∙ row-pass _ _ (sym index ∙ z)
+
+              entry : none ≡ eighth.applies
+              unfolding no_entry
+              entry =
+                  let on : Drawing → Bool → Bool = (λ d b. (no_entry d k.palette (canvas b (sheet_in k.lent))).applies) in
+                  e ∙ ap (λ (d : Drawing). on d padded) as_drawn ∙ ap (on (drawing_of k)) padding-is
+
+              by_entry : none ≡ true → run_refusal k ≡ Some NoEntries
+              unfolding no_entry
+              by_entry y = past_7 ∙ row_hit _ _ (sym entry ∙ y)
+
+              accepted : none ≡ false → run_refusal k ≡ None
+              accepted n = past_7 ∙ row_last _ (sym entry ∙ n)
+
+pub returns-in_err-sheet_refusal : goal.returns-in_err-sheet_refusal
+returns-in_err-sheet_refusal c =
+    let r : c.from_residual.result ≡ Err c.in_err-sheet_refusal.field-0.0 = search rules in
+    let m : to_z w32 (of_z w32 c.args.o.outline_margin) ≡ c.args.o.outline_margin = grind (arith, to_z-of_z) in
+    r ∙ some_answered _ (by_sheet _ m c.drawing-how.ensures c.padding-padded.ensures c.in_err-sheet_refusal.ensures)
+
+pub returns-in_err-settings_refusal : goal.returns-in_err-settings_refusal
+returns-in_err-settings_refusal c =
+    let r : c.from_residual-in_err-settings_refusal.result ≡ Err c.in_err-settings_refusal.field-0.0 = search rules in
+    let m : to_z w32 (of_z w32 c.args.o.outline_margin) ≡ c.args.o.outline_margin = grind (arith, to_z-of_z) in
+    r ∙ some_answered _ (by_settings _ m c.drawing-how.ensures c.padding-padded.ensures c.in_ok-sheet_refusal.ensures c.kept-kept.ensures c.in_err-settings_refusal.ensures)
+
+abbrev called : List ℤ → ℕ → ℕ → List Float → ℕ → Options → ℕ → RunCall
+called cells h w lab k o work =
+    record {
+      lent = lent_sheet cells h w work;
+      palette = palette_of lab k;
+      config = o.config;
+      saturated = o.saturated;
+      fixed = o.fixed_palette;
+      margin = o.outline_margin;
+    }
+
+pub bad_index_met-requires : goal.bad_index_met-requires
+bad_index_met-requires c =
+    let a = c.args in
+    let k = called a.cells.now a.h a.w a.palette.now a.k a.o a.work in
+    let m : to_z w32 (of_z w32 a.o.outline_margin) ≡ a.o.outline_margin = grind (arith, to_z-of_z) in
+    record {
+      present = seated _ a.cells.now (room k m c.drawing-how.ensures c.padding-padded.ensures c.in_ok-sheet_refusal.ensures);
+      k_bound = few k m c.drawing-how.ensures c.padding-padded.ensures c.in_ok-sheet_refusal.ensures c.kept-kept.ensures c.in_ok-settings_refusal.ensures;
+    }
+
+pub returns-then-bad_index_met : goal.returns-then-bad_index_met
+unfolding bad_index
+returns-then-bad_index_met c =
+    let m : to_z w32 (of_z w32 c.args.o.outline_margin) ≡ c.args.o.outline_margin = grind (arith, to_z-of_z) in
+    some_answered _
+    (by_index _ m c.drawing-how.ensures c.padding-padded.ensures c.in_ok-sheet_refusal.ensures c.kept-kept.ensures c.in_ok-settings_refusal.ensures c.bad_index_met.ensures c.if-bad_index_met.true)
+
+pub no_entry-requires : goal.no_entry-requires
+no_entry-requires c =
+    let a = c.args in
+    let k = called a.cells.now a.h a.w a.palette.now a.k a.o a.work in
+    let m : to_z w32 (of_z w32 a.o.outline_margin) ≡ a.o.outline_margin = grind (arith, to_z-of_z) in
+    record {
+      present = seated _ a.cells.now (room k m c.drawing-how.ensures c.padding-padded.ensures c.in_ok-sheet_refusal.ensures);
+      w_value = touched k m c.drawing-how.ensures c.padding-padded.ensures c.in_ok-sheet_refusal.ensures;
+    }
+
+pub returns-then-no_entry : goal.returns-then-no_entry
+unfolding bad_index
+returns-then-no_entry c =
+    let m : to_z w32 (of_z w32 c.args.o.outline_margin) ≡ c.args.o.outline_margin = grind (arith, to_z-of_z) in
+    some_answered _
+    (by_entry _ m c.drawing-how.ensures c.padding-padded.ensures c.in_ok-sheet_refusal.ensures c.kept-kept.ensures c.in_ok-settings_refusal.ensures c.bad_index_met.ensures c.if-bad_index_met.false
+    c.no_entry.ensures c.if-no_entry.true)
+
+pub returns : goal.returns
+unfolding bad_index
+returns c =
+    let m : to_z w32 (of_z w32 c.args.o.outline_margin) ≡ c.args.o.outline_margin = grind (arith, to_z-of_z) in
+    none_answered _
+    (accepted _ m c.drawing-how.ensures c.padding-padded.ensures c.in_ok-sheet_refusal.ensures c.kept-kept.ensures c.in_ok-settings_refusal.ensures c.bad_index_met.ensures c.if-bad_index_met.false
+    c.no_entry.ensures c.if-no_entry.false)
+    refl
