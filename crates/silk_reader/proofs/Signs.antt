@@ -1,5 +1,5 @@
 -- Signed numbers of at most nine digits, as the machine holds them. Assumes nothing.
-use Prim.Native.Nat.{ℕ, zero, suc, ◌^◌, ◌<◌, zero-le}
+use Prim.Native.Nat.{zero, suc, zero-le}
 use mathlib.Core.Path.{◌≡◌, refl, ap, ◌∙◌}
 use mathlib.Core.Bool.{true, false, not, true≢false}
 use native.Mathlib.Omega.{arith}
@@ -8,28 +8,9 @@ use lib.IntN.{ℤ, pos, negsuc, neg_ℤ, nat_abs, ◌-ℤ◌, +ℤ_idl}
 use lib.Signed.{lt_z, non_neg}
 use mir.Syntax.{w32, w64}
 use mir.Val.{Fits, SFits, of_z, to_z}
-use mir.Facts.{to_z-of_z, to_z_pos, sfits_widen, Fits-nat_abs}
+use mir.Facts.{to_z-of_z, sfits_widen, Fits-nat_abs}
 use borrow.Author.Tests.{le-ltb}
 use Rattle.base.proofs.Counting.{clash}
-
-pub pos_fits : (n : ℕ) → n < 10 ^ 9 → SFits w32 (pos n)
-pos_fits n h = record { sfits = omega arith }
-
-pub neg_fits : (n : ℕ) → n < 10 ^ 9 → SFits w32 (neg_ℤ (pos n))
-neg_fits zero h = record { sfits = omega arith }
-neg_fits (suc n) h = record { sfits = omega arith }
-
--- what comes back from a call
-pub back : {z y : ℤ} → SFits w32 y → z ≡ y → to_z w32 (of_z w32 z) ≡ y
-back {z} {y} f e = ap (λ (x : ℤ). to_z w32 (of_z w32 x)) e ∙ to_z-of_z f
-
-pub read_pos : (n : ℕ) → n < 10 ^ 9 → to_z w32 n ≡ pos n
-read_pos n h = to_z_pos w32 (omega arith)
-
-pub minus_is : (n : ℕ) → n < 10 ^ 9 → pos 0 -ℤ to_z w32 n ≡ neg_ℤ (pos n)
-minus_is n h = ap (λ (z : ℤ). pos 0 -ℤ z) (read_pos n h) ∙ +ℤ_idl (neg_ℤ (pos n))
-
--- ---- the size of a cell
 
 pub sign_is : (z : ℤ) → lt_z z (pos 0) ≡ not (non_neg z)
 sign_is (pos n) = le-ltb n 0 zero-le

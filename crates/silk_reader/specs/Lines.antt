@@ -1,11 +1,10 @@
 -- The lines that the program reads, and the head that fourteen of them make. Definitions only. Assumes nothing.
 use Rattle.std.specs.Prelude.{ℕ, ◌||◌, [], ◌∷◌, ltb, pos, Float}
 use Rattle.base.specs.Refusals.{row, refusal, unless}
+use Rattle.base.specs.declared.Refusal.TheVariants.{SideTooLong, WrongLength}
 use Rattle.base.specs.Doubles.{◌⊘◌, decimal}
 use Rattle.hex_colour.specs.Hex.{hex_to_rgb8}
 use Rattle.color.specs.declared.Rgb8.{Rgb8}
-use Rattle.hex_colour.specs.declared.Hex.{Hex}
-use Rattle.hex_colour.specs.declared.Hex as hex
 use Rattle.rules.specs.declared.Outline.{Outline}
 use Rattle.rules.specs.declared.Outline as outline
 use Rattle.silk_reader.specs.declared.head.OutlineKind.{OutlineKind}
@@ -15,27 +14,23 @@ use Rattle.silk_reader.specs.declared.head.Passes.{Passes}
 use Rattle.silk_reader.specs.declared.head.Options.{Options}
 use Rattle.silk_reader.specs.declared.head.Head.{Head}
 use Rattle.silk_reader.specs.Reader.{got, refused, Reader, ◌>>=◌, ◌>>◌, give, ◌or◌, codes, bytes, newline, span, in_line, number_line, switch_line}
+use Rattle.silk_reader.specs.Answers.{answer}
 
 -- ---- values
 
 -- hundredths, divided once
-unfoldable pub hundredths : ℕ → Float
+abbrev pub hundredths : ℕ → Float
 hundredths n = decimal n 0 ⊘ decimal 100 0
-
--- what a hex colour was read as, with nothing more read
-unfoldable pub hex_of : Hex → Reader Rgb8
-hex_of (hex.TheVariants.Colour c) text = got c text
-hex_of (hex.TheVariants.Refused n) text = refused n
 
 -- the rest of a line, read as a hex colour once its byte 10 is read
 unfoldable pub hex_line : Reader Rgb8
 hex_line = do
   value ← span in_line
   bytes newline
-  hex_of (hex_to_rgb8 value)
+  answer (hex_to_rgb8 value)
 
 -- a line of the palette
-unfoldable pub colour_line : Reader Rgb8
+abbrev pub colour_line : Reader Rgb8
 colour_line = bytes (codes "colour=") >> hex_line
 
 -- none, auto or hex
@@ -46,11 +41,11 @@ outline_value =
     or (hex_line >>= λ c. give (kind.TheVariants.Explicit c))
 
 -- the outline's line
-unfoldable pub outline_line : Reader OutlineKind
+abbrev pub outline_line : Reader OutlineKind
 outline_line = bytes (codes "outline=") >> outline_value
 
 -- darken is dropped unless the outline is auto
-unfoldable pub outline_with : OutlineKind → ℕ → Outline
+abbrev pub outline_with : OutlineKind → ℕ → Outline
 outline_with kind.TheVariants.Nothing darken = outline.TheVariants.None
 outline_with kind.TheVariants.Auto darken = outline.TheVariants.Auto (hundredths darken)
 outline_with (kind.TheVariants.Explicit c) darken = outline.TheVariants.Rgb c.r c.g c.b
@@ -86,7 +81,7 @@ options = do
   give (record { darken = darken; tileset = tileset; margin = pos margin; saturated = saturated; fixed = fixed })
 
 -- the head that its four parts make
-unfoldable pub head_of : Sizes → Passes → OutlineKind → Options → Head
+abbrev pub head_of : Sizes → Passes → OutlineKind → Options → Head
 head_of s p kind o =
     record {
       height = s.height;
@@ -110,10 +105,10 @@ head_of s p kind o =
 -- judged once the head is read: more than 40 rows or columns, more than 256 colours
 unfoldable pub checked_head : Head → Reader Head
 checked_head h text =
-    unless (refusal (row 1 (ltb 40 h.height || ltb 40 h.width) ∷ row 4 (ltb 256 h.colours) ∷ [])) refused (got h text)
+    unless (refusal (row SideTooLong (ltb 40 h.height || ltb 40 h.width) ∷ row WrongLength (ltb 256 h.colours) ∷ [])) refused (got h text)
 
 -- the rest of the head, after the outline's line
-unfoldable pub head_end : Sizes → Passes → OutlineKind → Reader Head
+abbrev pub head_end : Sizes → Passes → OutlineKind → Reader Head
 head_end s p kind = options >>= λ o. checked_head (head_of s p kind o)
 
 -- all fourteen lines

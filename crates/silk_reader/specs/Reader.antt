@@ -1,12 +1,14 @@
--- Readers of text, a list of bytes: each gives a value and the text that is left, or a refusal's number. Definitions only. Assumes nothing.
+-- Readers of text, a list of bytes: each gives a value and the text that is left, or a refusal. Definitions only. Assumes nothing.
 use Rattle.std.specs.Prelude.{ℕ, zero, suc, ◌+◌, ◌-◌, ◌*◌, Bool, not, ◌&&◌, ◌||◌, cond, List, [], ◌∷◌, leb, eqb, ℤ, pos, neg_ℤ, length, get_or, drop}
+use Rattle.base.specs.declared.Refusal.{Refusal}
+use Rattle.base.specs.declared.Refusal.TheVariants.{Malformed}
 use Prim.Native.Char.{code}
 use Prim.Native.String.{String, [] as ε, ◌∷◌ as ◌◂◌}
 
 -- what reading comes to
 pub data Got (A : Type 0) : Type 0 where
   got : A → List ℕ → Got A
-  refused : ℕ → Got A
+  refused : Refusal → Got A
 
 -- what a text is read as
 abbrev pub Reader : Type 0 → Type 0
@@ -15,30 +17,30 @@ Reader A = List ℕ → Got A
 -- ---- one after the other
 
 -- on with what was got; a refusal stays
-unfoldable pub chain : {A B : Type 0} → Got A → (A → Reader B) → Got B
+abbrev pub chain : {A B : Type 0} → Got A → (A → Reader B) → Got B
 chain (got x rest) f = f x rest
 chain (refused n) f = refused n
 
 infixl 40 ◌>>=◌ ◌>>◌ ◌or◌
 -- one reader after another, which takes the value of the first
-unfoldable pub ◌>>=◌ : {A B : Type 0} → Reader A → (A → Reader B) → Reader B
+abbrev pub ◌>>=◌ : {A B : Type 0} → Reader A → (A → Reader B) → Reader B
 ◌>>=◌ p f text = chain (p text) f
 
 -- the same where the second takes nothing
-unfoldable pub ◌>>◌ : {A B : Type 0} → Reader A → Reader B → Reader B
+abbrev pub ◌>>◌ : {A B : Type 0} → Reader A → Reader B → Reader B
 ◌>>◌ p q text = chain (p text) (λ x. q)
 
 -- the value, with nothing read
-unfoldable pub give : {A : Type 0} → A → Reader A
+abbrev pub give : {A : Type 0} → A → Reader A
 give x text = got x text
 
 -- the first, unless it is a refusal
-unfoldable pub or_else : {A : Type 0} → Got A → Got A → Got A
+abbrev pub or_else : {A : Type 0} → Got A → Got A → Got A
 or_else (got x rest) g = got x rest
 or_else (refused n) g = g
 
 -- the first reader's, unless it refuses
-unfoldable pub ◌or◌ : {A : Type 0} → Reader A → Reader A → Reader A
+abbrev pub ◌or◌ : {A : Type 0} → Reader A → Reader A → Reader A
 ◌or◌ p q text = or_else (p text) (q text)
 
 -- n values, read by p i, p (i + 1), ..
@@ -56,8 +58,8 @@ codes (c ◂ s) = code c ∷ codes s
 -- just these bytes
 unfoldable pub bytes : List ℕ → Reader Unit
 bytes [] text = got tt text
-bytes (b ∷ bs) [] = refused 10
-bytes (b ∷ bs) (c ∷ cs) = cond (eqb b c) (bytes bs cs) (refused 10)
+bytes (b ∷ bs) [] = refused Malformed
+bytes (b ∷ bs) (c ∷ cs) = cond (eqb b c) (bytes bs cs) (refused Malformed)
 
 -- the byte 10
 unfoldable pub newline : List ℕ
@@ -93,7 +95,7 @@ proper ds = leb 1 (length ds) && leb (length ds) 9 && (leb (length ds) 1 || not 
 
 -- the number that digits write, if they may
 unfoldable pub proper_number : List ℕ → Reader ℕ
-proper_number ds text = cond (proper ds) (got (value 0 ds) text) (refused 10)
+proper_number ds text = cond (proper ds) (got (value 0 ds) text) (refused Malformed)
 
 -- a decimal number
 unfoldable pub number : Reader ℕ
@@ -105,7 +107,7 @@ natural = number >>= λ n. give (pos n)
 
 -- the number below 0 of that size; there is no -0
 unfoldable pub minus : ℕ → Reader ℤ
-minus n text = cond (eqb n 0) (refused 10) (got (neg_ℤ (pos n)) text)
+minus n text = cond (eqb n 0) (refused Malformed) (got (neg_ℤ (pos n)) text)
 
 -- what follows a minus
 unfoldable pub negative : Reader ℤ
@@ -126,7 +128,7 @@ cell_at x text = cond (eqb x 0) (cell text) ((bytes (codes ",") >> cell) text)
 -- ---- lines
 
 -- a line: a key, a value, and the byte 10
-unfoldable pub key_line : {A : Type 0} → List ℕ → Reader A → Reader A
+abbrev pub key_line : {A : Type 0} → List ℕ → Reader A → Reader A
 key_line key p = do
   bytes key
   x ← p
@@ -138,8 +140,8 @@ unfoldable pub number_line : List ℕ → Reader ℕ
 number_line key = key_line key number
 
 -- 0 or 1
-unfoldable pub switch_of : ℕ → Reader Bool
-switch_of n text = cond (leb n 1) (got (eqb n 1) text) (refused 10)
+abbrev pub switch_of : ℕ → Reader Bool
+switch_of n text = cond (leb n 1) (got (eqb n 1) text) (refused Malformed)
 
 -- a line of a key and a switch
 unfoldable pub switch_line : List ℕ → Reader Bool

@@ -1,41 +1,30 @@
 // The head of the text: the sizes and settings, line by line.
-ghost use Rattle.std.specs.Prelude.{◌≡◌, drop, List, ℕ};
-ghost use Rattle.silk_reader.specs.Lines.{hundredths, outline_value, outline_line, outline_with, sizes, passes, options, head_of, checked_head, head_end, head};
-ghost use Rattle.silk_reader.specs.Answers.{got_outline, got_sizes, got_passes, got_options, got_head};
+ghost use Rattle.std.specs.Prelude.{◌≡◌, List, ℕ};
+ghost use Rattle.silk_reader.specs.Lines.{hundredths, outline_value, outline_line, outline_with, sizes, passes, options, head_of, checked_head, head};
+ghost use Rattle.silk_reader.specs.Answers.{answer};
 
-use super::{BytesRead, ColourRead, Cursor, NumberRead, SwitchRead, signed};
+use super::Cursor;
+use base::Refusal;
 use color::Rgb8;
 use rules::{Outline, PostConfig};
 
 // The outline that is asked for, before its darkening is read.
-#[derive(Clone, Copy)]
+#[derive(Clone, Copy, Debug, PartialEq, Eq)]
 pub enum OutlineKind {
     Nothing,
     Auto,
     Explicit(Rgb8),
 }
 
-#[derive(Clone, Copy)]
-pub enum OutlineRead {
-    Value(OutlineKind, Cursor),
-    Refused(u8),
-}
-
-#[derive(Clone, Copy)]
+#[derive(Clone, Copy, Debug, PartialEq, Eq)]
 pub struct Sizes {
     pub height: usize,
     pub width: usize,
     pub colours: usize,
 }
 
-#[derive(Clone, Copy)]
-pub enum SizesRead {
-    Value(Sizes, Cursor),
-    Malformed,
-}
-
 // The settings of saturation, cleaning and corners.
-#[derive(Clone, Copy)]
+#[derive(Clone, Copy, Debug, PartialEq)]
 pub struct Passes {
     pub beta: f64,
     pub orphans: bool,
@@ -44,26 +33,14 @@ pub struct Passes {
     pub jaggies: bool,
 }
 
-#[derive(Clone, Copy)]
-pub enum PassesRead {
-    Value(Passes, Cursor),
-    Malformed,
-}
-
 // The settings after the outline.
-#[derive(Clone, Copy)]
+#[derive(Clone, Copy, Debug, PartialEq, Eq)]
 pub struct Options {
     pub darken: u32,
     pub tileset: bool,
     pub margin: i32,
     pub saturated: bool,
     pub fixed: bool,
-}
-
-#[derive(Clone, Copy)]
-pub enum OptionsRead {
-    Value(Options, Cursor),
-    Malformed,
 }
 
 // What the head says.
@@ -76,12 +53,6 @@ pub struct Head {
     pub margin: i32,
     pub saturated: bool,
     pub fixed: bool,
-}
-
-#[derive(Clone, Copy)]
-pub enum HeadRead {
-    Value(Head, Cursor),
-    Refused(u8),
 }
 
 fn hundredths(n: u32) -> f64
@@ -128,155 +99,105 @@ fn head_of(s: Sizes, p: Passes, kind: OutlineKind, o: Options) -> Head
 const MOST_COLOURS: usize = 256;
 
 // The head, unless it asks for more than 40 rows or columns, or more than 256 colours.
-fn checked_head(h: Head, next: Cursor) -> HeadRead
-    ensures { (text : List ℕ) → got_head text result ≡ checked_head h (drop next.at text) }
+#[tactic(auto, unfolding(crate::specs::Lines::checked_head, base::specs::Refusals::refusal, base::specs::Refusals::unless))]
+fn checked_head(h: Head) -> Result<Head, Refusal>
+    ensures { (text : List ℕ) → answer result text ≡ checked_head h text }
 {
-    if h.height > 40 {
-        return HeadRead::Refused(1);
-    }
-    if h.width > 40 {
-        return HeadRead::Refused(1);
+    if h.height > 40 || h.width > 40 {
+        return Err(Refusal::SideTooLong);
     }
     if h.colours > MOST_COLOURS {
-        return HeadRead::Refused(4);
+        return Err(Refusal::WrongLength);
     }
-    HeadRead::Value(h, next)
+    Ok(h)
 }
 
-impl Cursor {
+impl<'a> Cursor<'a> {
     // The rest of the line as an outline: none, auto or a hex colour.
-    fn outline_value(self, text: &[u8]) -> OutlineRead
-        ensures { got_outline text.now result ≡ outline_value (drop self.at text.now) }
+    #[tactic(auto, unfolding(crate::specs::Lines::outline_value, crate::specs::Reader::codes))]
+    fn outline_value(&mut self) -> Result<OutlineKind, Refusal>
+        ensures { answer result self.new ≡ outline_value self.old }
     {
-        if let BytesRead::To(next) = self.bytes(text, b"none\n") {
-            return OutlineRead::Value(OutlineKind::Nothing, next);
+        if self.bytes(b"none\n").is_ok() {
+            return Ok(OutlineKind::Nothing);
         }
-        if let BytesRead::To(next) = self.bytes(text, b"auto\n") {
-            return OutlineRead::Value(OutlineKind::Auto, next);
+        if self.bytes(b"auto\n").is_ok() {
+            return Ok(OutlineKind::Auto);
         }
-        match self.hex_line(text) {
-            ColourRead::Value(c, next) => OutlineRead::Value(OutlineKind::Explicit(c), next),
-            ColourRead::Refused(n) => OutlineRead::Refused(n),
-        }
+        let colour = self.hex_line()?;
+        Ok(OutlineKind::Explicit(colour))
     }
 
-    fn outline_line(self, text: &[u8]) -> OutlineRead
-        ensures { got_outline text.now result ≡ outline_line (drop self.at text.now) }
+    #[tactic(auto, unfolding(crate::specs::Reader::codes))]
+    fn outline_line(&mut self) -> Result<OutlineKind, Refusal>
+        ensures { answer result self.new ≡ outline_line self.old }
     {
-        let BytesRead::To(next) = self.bytes(text, b"outline=") else {
-            return OutlineRead::Refused(10);
-        };
-        next.outline_value(text)
+        self.bytes(b"outline=")?;
+        self.outline_value()
     }
 
     // The lines height, width and colours.
-    fn sizes(self, text: &[u8]) -> SizesRead
-        ensures { got_sizes text.now result ≡ sizes (drop self.at text.now) }
+    #[tactic(auto, unfolding(crate::specs::Lines::sizes, crate::specs::Reader::codes))]
+    fn sizes(&mut self) -> Result<Sizes, Refusal>
+        ensures { answer result self.new ≡ sizes self.old }
     {
-        let NumberRead::Value(height, at1) = self.number_line(text, b"height=") else {
-            return SizesRead::Malformed;
-        };
-        let NumberRead::Value(width, at2) = at1.number_line(text, b"width=") else {
-            return SizesRead::Malformed;
-        };
-        let NumberRead::Value(colours, at3) = at2.number_line(text, b"colours=") else {
-            return SizesRead::Malformed;
-        };
-        SizesRead::Value(
-            Sizes {
-                height: height as usize,
-                width: width as usize,
-                colours: colours as usize,
-            },
-            at3,
-        )
+        let height = self.number_line(b"height=")?;
+        let width = self.number_line(b"width=")?;
+        let colours = self.number_line(b"colours=")?;
+        Ok(Sizes {
+            height: height as usize,
+            width: width as usize,
+            colours: colours as usize,
+        })
     }
 
     // The lines beta, orphans, min, delta and jaggies.
-    fn passes(self, text: &[u8]) -> PassesRead
-        ensures { got_passes text.now result ≡ passes (drop self.at text.now) }
+    #[tactic(auto, using(crate::proofs::Scanning::whole_double), unfolding(crate::specs::Lines::passes, crate::specs::Reader::codes))]
+    fn passes(&mut self) -> Result<Passes, Refusal>
+        ensures { answer result self.new ≡ passes self.old }
     {
-        let NumberRead::Value(beta, at1) = self.number_line(text, b"beta=") else {
-            return PassesRead::Malformed;
-        };
-        let SwitchRead::Value(orphans, at2) = at1.switch_line(text, b"orphans=") else {
-            return PassesRead::Malformed;
-        };
-        let NumberRead::Value(min, at3) = at2.number_line(text, b"min=") else {
-            return PassesRead::Malformed;
-        };
-        let NumberRead::Value(delta, at4) = at3.number_line(text, b"delta=") else {
-            return PassesRead::Malformed;
-        };
-        let SwitchRead::Value(jaggies, at5) = at4.switch_line(text, b"jaggies=") else {
-            return PassesRead::Malformed;
-        };
-        PassesRead::Value(
-            Passes {
-                beta: hundredths(beta),
-                orphans,
-                min: signed(min),
-                delta: delta as f64,
-                jaggies,
-            },
-            at5,
-        )
+        let beta = self.number_line(b"beta=")?;
+        let orphans = self.switch_line(b"orphans=")?;
+        let min = self.number_line(b"min=")?;
+        let delta = self.number_line(b"delta=")?;
+        let jaggies = self.switch_line(b"jaggies=")?;
+        Ok(Passes {
+            beta: hundredths(beta),
+            orphans,
+            min: min as i32,
+            delta: delta as f64,
+            jaggies,
+        })
     }
 
     // The lines darken, tileset, margin, saturated and fixed.
-    fn options(self, text: &[u8]) -> OptionsRead
-        ensures { got_options text.now result ≡ options (drop self.at text.now) }
+    #[tactic(auto, unfolding(crate::specs::Lines::options, crate::specs::Reader::codes))]
+    fn options(&mut self) -> Result<Options, Refusal>
+        ensures { answer result self.new ≡ options self.old }
     {
-        let NumberRead::Value(darken, at1) = self.number_line(text, b"darken=") else {
-            return OptionsRead::Malformed;
-        };
-        let SwitchRead::Value(tileset, at2) = at1.switch_line(text, b"tileset=") else {
-            return OptionsRead::Malformed;
-        };
-        let NumberRead::Value(margin, at3) = at2.number_line(text, b"margin=") else {
-            return OptionsRead::Malformed;
-        };
-        let SwitchRead::Value(saturated, at4) = at3.switch_line(text, b"saturated=") else {
-            return OptionsRead::Malformed;
-        };
-        let SwitchRead::Value(fixed, at5) = at4.switch_line(text, b"fixed=") else {
-            return OptionsRead::Malformed;
-        };
-        OptionsRead::Value(
-            Options {
-                darken,
-                tileset,
-                margin: signed(margin),
-                saturated,
-                fixed,
-            },
-            at5,
-        )
-    }
-
-    // What follows the outline's line, up to the head's end.
-    fn head_end(self, text: &[u8], s: Sizes, p: Passes, kind: OutlineKind) -> HeadRead
-        ensures { got_head text.now result ≡ head_end s p kind (drop self.at text.now) }
-    {
-        let OptionsRead::Value(o, next) = self.options(text) else {
-            return HeadRead::Refused(10);
-        };
-        checked_head(head_of(s, p, kind, o), next)
+        let darken = self.number_line(b"darken=")?;
+        let tileset = self.switch_line(b"tileset=")?;
+        let margin = self.number_line(b"margin=")?;
+        let saturated = self.switch_line(b"saturated=")?;
+        let fixed = self.switch_line(b"fixed=")?;
+        Ok(Options {
+            darken,
+            tileset,
+            margin: margin as i32,
+            saturated,
+            fixed,
+        })
     }
 
     // The whole head; its sizes are judged once its last line is read.
-    pub fn head(self, text: &[u8]) -> HeadRead
-        ensures { got_head text.now result ≡ head (drop self.at text.now) }
+    #[tactic(auto, unfolding(crate::specs::Lines::head))]
+    pub fn head(&mut self) -> Result<Head, Refusal>
+        ensures { answer result self.new ≡ head self.old }
     {
-        let SizesRead::Value(s, at1) = self.sizes(text) else {
-            return HeadRead::Refused(10);
-        };
-        let PassesRead::Value(p, at2) = at1.passes(text) else {
-            return HeadRead::Refused(10);
-        };
-        match at2.outline_line(text) {
-            OutlineRead::Value(kind, at3) => at3.head_end(text, s, p, kind),
-            OutlineRead::Refused(n) => HeadRead::Refused(n),
-        }
+        let s = self.sizes()?;
+        let p = self.passes()?;
+        let kind = self.outline_line()?;
+        let o = self.options()?;
+        checked_head(head_of(s, p, kind, o))
     }
 }

@@ -1,31 +1,30 @@
 // The items of the lists that follow the head: a colour's line, and a cell of a row.
-ghost use Rattle.std.specs.Prelude.{◌≡◌, drop};
+ghost use Rattle.std.specs.Prelude.{◌≡◌};
 ghost use Rattle.silk_reader.specs.Reader.{cell_at};
 ghost use Rattle.silk_reader.specs.Lines.{colour_line};
-ghost use Rattle.silk_reader.specs.Answers.{got_colour, got_cell};
+ghost use Rattle.silk_reader.specs.Answers.{answer};
 
-use super::{BytesRead, CellRead, ColourRead, Cursor};
+use super::Cursor;
+use base::Refusal;
+use color::Rgb8;
 
-impl Cursor {
-    pub fn colour_line(self, text: &[u8]) -> ColourRead
-        ensures { got_colour text.now result ≡ colour_line (drop self.at text.now) }
+impl<'a> Cursor<'a> {
+    #[tactic(auto, unfolding(crate::specs::Reader::codes))]
+    pub fn colour_line(&mut self) -> Result<Rgb8, Refusal>
+        ensures { answer result self.new ≡ colour_line self.old }
     {
-        let BytesRead::To(next) = self.bytes(text, b"colour=") else {
-            return ColourRead::Refused(10);
-        };
-        next.hex_line(text)
+        self.bytes(b"colour=")?;
+        self.hex_line()
     }
 
     // The cell of column x, after a comma unless it is the first.
-    pub fn cell_at(self, text: &[u8], x: usize) -> CellRead
-        ensures { got_cell text.now result ≡ cell_at x (drop self.at text.now) }
+    #[tactic(auto, unfolding(crate::specs::Reader::cell_at, crate::specs::Reader::codes))]
+    pub fn cell_at(&mut self, x: usize) -> Result<i32, Refusal>
+        ensures { answer result self.new ≡ cell_at x self.old }
     {
-        if x == 0 {
-            return self.cell(text);
+        if x > 0 {
+            self.bytes(b",")?;
         }
-        let BytesRead::To(next) = self.bytes(text, b",") else {
-            return CellRead::Malformed;
-        };
-        next.cell(text)
+        self.cell()
     }
 }

@@ -1,267 +1,186 @@
-// A place in a text, which moves on as the text is read.
+// A text that is read from its front.
 #![tactic(auto)]
 
 pub mod head;
 pub mod items;
 
-ghost use Rattle.std.specs.Prelude.{◌≡◌, ◌+◌, ◌^◌, ◌<◌, pos, neg_ℤ, length, drop};
-ghost use Rattle.silk_reader.specs.Reader.{bytes, take_while, in_line, is_digit, proper, value, number, at_minus, natural, negative, cell, number_line, switch_line};
-ghost use Rattle.silk_reader.specs.Answers.{got_bytes, got_number, got_switch, got_cell, got_colour, Decimal};
+ghost use Rattle.std.specs.Prelude.{◌≡◌, ◌==◌, ◌^◌, ◌<◌, ◌≤◌, length, position, IfOk, OnErr};
+ghost use Rattle.std.specs.Char.{is_ascii_digit};
+ghost use Rattle.std.specs.List.{prefix_len};
+ghost use Rattle.silk_reader.specs.Reader.{bytes, proper, value, number, natural, negative, cell, number_line, switch_line};
+ghost use Rattle.silk_reader.specs.Answers.{answer, Decimal};
 ghost use Rattle.silk_reader.specs.Lines.{hex_line};
 
+use base::Refusal;
 use color::Rgb8;
-use hex_colour::{Hex, hex_to_rgb8};
+use hex_colour::hex_to_rgb8;
+use std::marker::Model;
 
-// The place of the next byte.
-#[derive(Clone, Copy)]
-pub struct Cursor {
-    pub at: usize,
+// What is left of a text: a clause sees its bytes.
+#[derive(Drop)]
+pub struct Cursor<'a> {
+    rest: &'a [u8],
 }
 
-// What reading fixed bytes comes to.
-#[derive(Clone, Copy)]
-pub enum BytesRead {
-    To(Cursor),
-    Malformed,
+impl<'a> Model for Cursor<'a> {
+    ghost use Rattle.std.specs.Prelude.{ℕ, List};
+
+    ghost Value = { List ℕ };
+
+    ghost view = { λ c. c.rest.now };
 }
 
-// What reading a number comes to.
-#[derive(Clone, Copy)]
-pub enum NumberRead {
-    Value(u32, Cursor),
-    Malformed,
-}
-
-// What reading a switch comes to.
-#[derive(Clone, Copy)]
-pub enum SwitchRead {
-    Value(bool, Cursor),
-    Malformed,
-}
-
-// What reading a cell comes to.
-#[derive(Clone, Copy)]
-pub enum CellRead {
-    Value(i32, Cursor),
-    Malformed,
-}
-
-// What reading a colour comes to.
-#[derive(Clone, Copy)]
-pub enum ColourRead {
-    Value(Rgb8, Cursor),
-    Refused(u8),
-}
-
-fn is_digit(c: u8) -> bool
-    ensures { result ≡ is_digit c }
+// How many digits a text begins with.
+fn digits_len(text: &[u8]) -> usize
+    ensures value { result ≡ prefix_len is_ascii_digit text.now }
+    ensures within { result ≤ length text.now }
 {
-    match c {
-        b'0'..=b'9' => true,
-        _ => false,
-    }
+    text.iter().take_while(|c| c.is_ascii_digit()).count()
 }
 
-// Where the digits that begin at a place end.
-fn digits_end(text: &[u8], at: usize) -> usize
-    ensures { result ≡ at + length (take_while is_digit (drop at text.now)) }
+// How long the line is that a text begins with, if its end is there.
+fn line_len(text: &[u8]) -> Option<usize>
+    ensures { result ≡ position (λ c. c == 10) text.now }
 {
-    let mut end = at;
-    while end < text.len() && is_digit(text[end]) {
-        end += 1;
-    }
-    end
-}
-
-// Where the line that goes on at a place ends: at its byte 10, or where the text does.
-fn line_end(text: &[u8], at: usize) -> usize
-    ensures { result ≡ at + length (take_while in_line (drop at text.now)) }
-{
-    let mut end = at;
-    while end < text.len() && text[end] != b'\n' {
-        end += 1;
-    }
-    end
+    text.iter().position(|c| *c == b'\n')
 }
 
 // The most digits that a number is written with.
 const MOST_DIGITS: usize = 9;
 
 // Whether digits write a number: one to nine of them, with no leading zero.
+#[tactic(auto, unfolding(crate::specs::Reader::proper))]
 fn proper(digits: &[u8]) -> bool
     ensures { result ≡ proper digits.now }
 {
-    if digits.len() > MOST_DIGITS {
-        return false;
-    }
-    match digits.len() {
-        0 => false,
-        1 => true,
-        _ => digits[0] != b'0',
+    match digits {
+        [] => false,
+        [_] => true,
+        [first, ..] => *first != b'0' && digits.len() <= MOST_DIGITS,
     }
 }
 
 // The number that at most nine digits write.
 fn value(digits: &[u8]) -> u32
     requires { Decimal digits.now }
-    ensures { result ≡ value 0 digits.now }
+    ensures value { result ≡ value 0 digits.now }
+    ensures small { result < 10 ^ 9 }
 {
     let mut v = 0;
-    let mut i = 0;
-    while i < digits.len() {
-        let d = digits[i] - b'0';
-        v = v * 10 + d as u32;
-        i += 1;
+    for d in digits {
+        v = v * 10 + u32::from(*d - b'0');
     }
     v
-}
-
-// A number of at most nine digits, as a signed one.
-pub fn signed(n: u32) -> i32
-    requires { n < 10 ^ 9 }
-    ensures { result ≡ pos n }
-{
-    n as i32
-}
-
-// The same below 0.
-fn negated(n: u32) -> i32
-    requires { n < 10 ^ 9 }
-    ensures { result ≡ neg_ℤ (pos n) }
-{
-    let z = n as i32;
-    -z
 }
 
 // The number that no minus may stand before.
 const NEVER_NEGATIVE: u32 = 0;
 
-impl Cursor {
-    // Past the bytes of a key.
-    pub fn bytes(self, text: &[u8], key: &[u8]) -> BytesRead
-        ensures { got_bytes text.now result ≡ bytes key.now (drop self.at text.now) }
+impl<'a> Cursor<'a> {
+    pub fn new(text: &'a [u8]) -> Cursor<'a>
+        ensures { result ≡ text.now }
     {
-        let mut at = self.at;
-        let mut i = 0;
-        while i < key.len() {
-            if at >= text.len() {
-                return BytesRead::Malformed;
-            }
-            if text[at] != key[i] {
-                return BytesRead::Malformed;
-            }
-            at += 1;
-            i += 1;
-        }
-        BytesRead::To(Cursor { at })
+        Cursor { rest: text }
+    }
+
+    pub fn is_empty(&self) -> bool
+        ensures { result ≡ (length self.now == 0) }
+    {
+        self.rest.is_empty()
+    }
+
+    // Past the bytes of a key.
+    #[tactic(auto, using(crate::proofs::Scanning::bytes_cases))]
+    pub fn bytes(&mut self, key: &[u8]) -> Result<(), Refusal>
+        ensures value { answer result self.new ≡ bytes key.now self.old }
+        ensures err { OnErr result (self.new ≡ self.old) }
+    {
+        let Some(rest) = self.rest.strip_prefix(key) else {
+            return Err(Refusal::Malformed);
+        };
+        self.rest = rest;
+        Ok(())
     }
 
     // A number of one to nine digits, with no leading zero.
-    pub fn number(self, text: &[u8]) -> NumberRead
-        ensures { got_number text.now result ≡ number (drop self.at text.now) }
+    #[tactic(auto, using(crate::proofs::Scanning::number_cut, crate::proofs::Scanning::decimal_front), unfolding(crate::specs::Reader::proper_number))]
+    pub fn number(&mut self) -> Result<u32, Refusal>
+        ensures value { answer result self.new ≡ number self.old }
+        ensures small { IfOk result (λ n. n < 10 ^ 9) }
     {
-        let at = self.at;
-        let end = digits_end(text, at);
-        if end == at {
-            return NumberRead::Malformed;
-        }
-        let digits = &text[at..end];
+        let (digits, rest) = self.rest.split_at(digits_len(self.rest));
         if !proper(digits) {
-            return NumberRead::Malformed;
+            return Err(Refusal::Malformed);
         }
-        NumberRead::Value(value(digits), Cursor { at: end })
-    }
-
-    // Whether the next byte is a minus.
-    fn at_minus(self, text: &[u8]) -> bool
-        ensures { result ≡ at_minus (drop self.at text.now) }
-    {
-        let at = self.at;
-        if at < text.len() {
-            text[at] == b'-'
-        } else {
-            false
-        }
+        self.rest = rest;
+        Ok(value(digits))
     }
 
     // A cell of 0 or more.
-    fn natural(self, text: &[u8]) -> CellRead
-        ensures { got_cell text.now result ≡ natural (drop self.at text.now) }
+    #[tactic(auto, unfolding(crate::specs::Reader::natural))]
+    fn natural(&mut self) -> Result<i32, Refusal>
+        ensures { answer result self.new ≡ natural self.old }
     {
-        let NumberRead::Value(n, next) = self.number(text) else {
-            return CellRead::Malformed;
-        };
-        CellRead::Value(signed(n), next)
+        let n = self.number()?;
+        Ok(n as i32)
     }
 
     // A cell below 0, from its digits on; -0 is none.
-    fn negative(self, text: &[u8]) -> CellRead
-        ensures { got_cell text.now result ≡ negative (drop self.at text.now) }
+    #[tactic(auto, unfolding(crate::specs::Reader::negative, crate::specs::Reader::minus))]
+    fn negative(&mut self) -> Result<i32, Refusal>
+        ensures { answer result self.new ≡ negative self.old }
     {
-        let NumberRead::Value(n, next) = self.number(text) else {
-            return CellRead::Malformed;
-        };
+        let n = self.number()?;
         if n == NEVER_NEGATIVE {
-            return CellRead::Malformed;
+            return Err(Refusal::Malformed);
         }
-        CellRead::Value(negated(n), next)
+        Ok(-(n as i32))
     }
 
     // A cell: a number that may carry a minus.
-    pub fn cell(self, text: &[u8]) -> CellRead
-        ensures { got_cell text.now result ≡ cell (drop self.at text.now) }
+    #[tactic(auto, using(crate::proofs::Scanning::minus_cases), unfolding(crate::specs::Reader::cell))]
+    pub fn cell(&mut self) -> Result<i32, Refusal>
+        ensures { answer result self.new ≡ cell self.old }
     {
-        if self.at_minus(text) {
-            let next = self.at + 1;
-            Cursor { at: next }.negative(text)
+        if self.bytes(b"-").is_ok() {
+            self.negative()
         } else {
-            self.natural(text)
+            self.natural()
         }
     }
 
     // A line of a key and a number.
-    pub fn number_line(self, text: &[u8], key: &[u8]) -> NumberRead
-        ensures { got_number text.now result ≡ number_line key.now (drop self.at text.now) }
+    #[tactic(auto, unfolding(crate::specs::Reader::number_line, crate::specs::Reader::newline))]
+    pub fn number_line(&mut self, key: &[u8]) -> Result<u32, Refusal>
+        ensures value { answer result self.new ≡ number_line key.now self.old }
+        ensures small { IfOk result (λ n. n < 10 ^ 9) }
     {
-        let BytesRead::To(from) = self.bytes(text, key) else {
-            return NumberRead::Malformed;
-        };
-        let NumberRead::Value(n, to) = from.number(text) else {
-            return NumberRead::Malformed;
-        };
-        let BytesRead::To(next) = to.bytes(text, b"\n") else {
-            return NumberRead::Malformed;
-        };
-        NumberRead::Value(n, next)
+        self.bytes(key)?;
+        let n = self.number()?;
+        self.bytes(b"\n")?;
+        Ok(n)
     }
 
     // A line of a key and a switch, 0 or 1.
-    pub fn switch_line(self, text: &[u8], key: &[u8]) -> SwitchRead
-        ensures { got_switch text.now result ≡ switch_line key.now (drop self.at text.now) }
+    #[tactic(auto, unfolding(crate::specs::Reader::switch_line))]
+    pub fn switch_line(&mut self, key: &[u8]) -> Result<bool, Refusal>
+        ensures { answer result self.new ≡ switch_line key.now self.old }
     {
-        let NumberRead::Value(n, next) = self.number_line(text, key) else {
-            return SwitchRead::Malformed;
-        };
-        match n {
-            0 => SwitchRead::Value(false, next),
-            1 => SwitchRead::Value(true, next),
-            _ => SwitchRead::Malformed,
+        match self.number_line(key)? {
+            0 => Ok(false),
+            1 => Ok(true),
+            _ => Err(Refusal::Malformed),
         }
     }
 
     // The rest of the line as a hex colour.
-    pub fn hex_line(self, text: &[u8]) -> ColourRead
-        ensures { got_colour text.now result ≡ hex_line (drop self.at text.now) }
+    #[tactic(auto, using(crate::proofs::Scanning::hex_none, crate::proofs::Scanning::hex_at))]
+    pub fn hex_line(&mut self) -> Result<Rgb8, Refusal>
+        ensures { answer result self.new ≡ hex_line self.old }
     {
-        let at = self.at;
-        let end = line_end(text, at);
-        if end >= text.len() {
-            return ColourRead::Refused(10);
-        }
-        let next = end + 1;
-        match hex_to_rgb8(&text[at..end]) {
-            Hex::Colour(rgb) => ColourRead::Value(rgb, Cursor { at: next }),
-            Hex::Refused(n) => ColourRead::Refused(n),
-        }
+        let end = line_len(self.rest).ok_or(Refusal::Malformed)?;
+        let (value, rest) = self.rest.split_at(end);
+        self.rest = &rest[1..];
+        hex_to_rgb8(value)
     }
 }

@@ -5,9 +5,13 @@ use mathlib.Core.List.{List, [], ◌∷◌, ◌++◌, append_assoc, append-nil}
 use native.Mathlib.Nat.{add-zero, add_assoc}
 use native.Mathlib.Numerals.{add-one}
 use native.Mathlib.Omega.{arith}
-use lib.ListN.{length, get_or, take, drop, set, length-append, length-drop, length-set, take-append-drop}
+use lib.ListN.{length, get_or, take, drop, set, length-append, length-drop, length-set, take-append-drop, drop_of_length-le}
 use lib.Seq.{take_at, take-suc, drop-append-add, drop-drop, length-take-le, sets, sets-eq}
-use Rattle.silk_reader.specs.Reader.{Got, got, refused, Reader, chain, ◌>>=◌, give}
+use borrow.Rule.Slice.PartMut.{put_mid}
+use Rattle.std.proofs.lemmas.Slice.{put_mid-paste}
+use Rattle.std.proofs.lemmas.List.Edits.{paste_all}
+use Rattle.base.specs.declared.Refusal.{Refusal}
+use Rattle.silk_reader.specs.Reader.{Got, got, refused, Reader, chain, give}
 use Rattle.silk_text.specs.Answers.{laid, onto}
 use Rattle.silk_reader.proofs.Chaining.{chain_first}
 
@@ -47,6 +51,19 @@ module _ {A : Type 0} where
 
   pub laid_one : (at : ℕ) (x : A) (old : List A) → at < length old → set old at x ≡ laid at (x ∷ []) old
   laid_one at x old h = laid_sets at (x ∷ []) old (omega arith)
+
+  -- a part that was written
+  pub mid_laid : (at k : ℕ) (old part : List A) {new : List A} → part ≡ new → k ≡ length new → put_mid at k old part ≡ laid at new old
+  unfolding laid
+  mid_laid at k old part {new} e n =
+      put_mid-paste at k old part new (length new) e (sym n) refl
+      ∙ paste_all old at new (length new) refl
+      ∙ sym (append_assoc (take at old) new (drop (at + length new) old))
+
+  -- a list laid over one as long
+  pub laid_whole : (new old : List A) → length new ≡ length old → laid 0 new old ≡ new
+  unfolding laid
+  laid_whole new old e = rw (drop_of_length-le old {i = 0 + length new} (omega arith)) (append-nil new)
 
 -- ---- a copy
 
@@ -89,25 +106,25 @@ pub record Read {A : Type 0} (g : Got (List A)) (at : ℕ) (old new : List A) (r
   pub list : laid at values old ≡ new
 
 pub onto_got : {A : Type 0} (at : ℕ) (old : List A) (p : Reader (List A)) (text : List ℕ) {new : List A} {rest : List ℕ} → onto at old p text ≡ got new rest → Read (p text) at old new rest
-unfolding onto ◌>>=◌ give
+unfolding onto
 onto_got at old p text {new} {rest} e =
     let a = chain_first (p text) (λ l. give (laid at l old)) e in
     let t : got (laid at a.value old) a.rest ≡ got new rest = a.then in
     let q : a.rest ≡ rest = cc in
     record { values = a.value; read = a.read ∙ ap (got a.value) q; list = cc }
 
-pub onto_no : {A : Type 0} (at : ℕ) (old : List A) (p : Reader (List A)) (text : List ℕ) {n : ℕ} → onto at old p text ≡ refused n → p text ≡ refused n
-unfolding onto ◌>>=◌ chain give
+pub onto_no : {A : Type 0} (at : ℕ) (old : List A) (p : Reader (List A)) (text : List ℕ) {n : Refusal} → onto at old p text ≡ refused n → p text ≡ refused n
+unfolding onto
 onto_no {A = A} at old p text {n} e = go (p text) refl e
   where
     go : (g : Got (List A)) → p text ≡ g → chain g (λ l. give (laid at l old)) ≡ refused n → p text ≡ refused n
-    go (got l rest) q t = let z : ◌≡◌ {A = ℕ} 0 1 = cc in absurd (omega arith)
+    go (got l rest) q t = cc
     go (refused m) q t = q ∙ t
 
 pub onto_yes : {A : Type 0} (at : ℕ) (old : List A) (p : Reader (List A)) (text : List ℕ) {l : List A} {rest : List ℕ} → p text ≡ got l rest → {new : List A} → laid at l old ≡ new → onto at old p text ≡ got new rest
-unfolding onto ◌>>=◌ chain give
+unfolding onto
 onto_yes at old p text e f = rw (e, f)
 
-pub onto_not : {A : Type 0} (at : ℕ) (old : List A) (p : Reader (List A)) (text : List ℕ) {n : ℕ} → p text ≡ refused n → onto at old p text ≡ refused n
-unfolding onto ◌>>=◌ chain give
+pub onto_not : {A : Type 0} (at : ℕ) (old : List A) (p : Reader (List A)) (text : List ℕ) {n : Refusal} → p text ≡ refused n → onto at old p text ≡ refused n
+unfolding onto
 onto_not at old p text e = rw e

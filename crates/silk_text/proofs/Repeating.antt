@@ -6,10 +6,11 @@ use native.Mathlib.Nat.{zero-mul, suc-mul, sub-zero}
 use native.Mathlib.Numerals.{add-one}
 use native.Mathlib.Omega.{arith}
 use lib.ListN.{length, length-append}
+use Rattle.base.specs.declared.Refusal.{Refusal}
 use Rattle.silk_reader.specs.Reader.{Got, got, refused, Reader, chain, series}
 use Rattle.silk_text.specs.Answers.{laid}
 use Rattle.silk_reader.proofs.Chaining.{chain_first}
-use Rattle.silk_text.proofs.Laying.{laid_none, laid-length, laid_more}
+use Rattle.silk_text.proofs.Laying.{laid_none, laid-length, laid_more, laid_whole}
 
 module _ {A B : Type 0} where
   pub flat_map_append : (f : A → List B) (s t : List A) → flat_map f (s ++ t) ≡ flat_map f s ++ flat_map f t
@@ -35,12 +36,10 @@ unfolding series
 series_some i n p text = refl
 
 chain_got : {A : Type 0} (g : Got (List A)) → g ≡ chain g (λ xs end. got ([] ++ xs) end)
-unfolding chain
 chain_got (got x rest) = refl
 chain_got (refused n) = refl
 
 chain_cons : {A : Type 0} (s : List A) (x : A) (g : Got (List A)) → chain (chain g (λ xs end. got (x ∷ xs) end)) (λ xs end. got (s ++ xs) end) ≡ chain g (λ xs end. got ((s ++ x ∷ []) ++ xs) end)
-unfolding chain
 chain_cons {A = A} s x (got xs rest) = ap (λ (l : List A). got l rest) (sym (append_assoc s (x ∷ []) xs))
 chain_cons s x (refused n) = refl
 
@@ -58,7 +57,7 @@ module _ {A B : Type 0} {p : ℕ → Reader A} {put : A → List B} (m n : ℕ) 
 
   module _ {i : ℕ} {rest : List ℕ} {now : List B} (g : Going p put m n text at old i rest now) where
     pub going_more : i < n → {x : A} {end : List ℕ} → p i rest ≡ got x end → length (put x) ≡ m → at + (i + 1) * m ≤ length old → {place : ℕ} {new : List B} → new ≡ laid place (put x) now → place ≡ at + i * m → Going p put m n text at old (i + 1) end new
-    unfolding flat_map chain
+    unfolding flat_map
     going_more h {x} {end} e l k {place} {new} st pl =
         let d : (i + 1) * m ≡ i * m + m = rw (add-one i) (suc-mul i m) in
         let s = g.read in
@@ -73,14 +72,12 @@ module _ {A B : Type 0} {p : ℕ → Reader A} {put : A → List B} (m n : ℕ) 
           kept = ap length new_is ∙ laid-length (at + i * m) (put x) now (omega (arith, g.kept)) ∙ g.kept;
         }
 
-    pub going_refused : i < n → {k : ℕ} → p i rest ≡ refused k → series 0 n p text ≡ refused k
-    unfolding chain
+    pub going_refused : i < n → {k : Refusal} → p i rest ≡ refused k → series 0 n p text ≡ refused k
     going_refused h e =
         let c : n - i ≡ suc (n - suc i) = omega arith in
         g.parse ∙ rw (c, series_some i (n - suc i) p rest, e)
 
     pub going_all : n ≤ i → series 0 n p text ≡ got g.read rest
-    unfolding chain
     going_all h =
         let c : n - i ≡ 0 = omega arith in
         g.parse ∙ rw (c, series_none i p rest, append-nil g.read)
@@ -89,6 +86,15 @@ pub singles : {A : Type 0} (l : List A) → flat_map (λ x. x ∷ []) l ≡ l
 unfolding flat_map
 singles [] = refl
 singles {A = A} (x ∷ l) = ap (λ (t : List A). x ∷ t) (singles l)
+
+-- a list that is filled by a series of its own length
+pub going_whole : {A : Type 0} {p : ℕ → Reader A} {text : List ℕ} {old : List A} {i : ℕ} {rest : List ℕ} {now : List A} → Going p (λ x. x ∷ []) 1 (length old) text 0 old i rest now →
+    i ≡ length old → got now rest ≡ series 0 (length old) p text
+going_whole {A = A} {old = old} {rest = rest} g e =
+    let s = singles g.read in
+    let n : length g.read ≡ length old = sym (ap length s) ∙ omega (arith, g.size) in
+    let l = g.list ∙ ap (λ (x : List A). laid 0 x old) s ∙ laid_whole g.read old n in
+    sym (going_all 1 _ 0 g (omega arith) ∙ ap (λ (x : List A). got x rest) (sym l))
 
 -- n values of a series come to n times m elements, if each comes to m
 pub series-size : {A B : Type 0} (p : ℕ → Reader A) (put : A → List B) (m : ℕ) → ((i : ℕ) (text : List ℕ) (x : A) (end : List ℕ) → p i text ≡ got x end → length (put x) ≡ m) →

@@ -1,6 +1,7 @@
 -- The text that the program reads: the head, colours and rows, and what they say. Definitions only. Assumes nothing.
 use Rattle.std.specs.Prelude.{ℕ, take, drop, ℤ, Float}
 use mathlib.Core.List.{List, [], ◌∷◌, ◌++◌, flat_map}
+use Rattle.base.specs.declared.Refusal.TheVariants.{Malformed}
 use Rattle.color.specs.Lab.{rgb8_to_lab}
 use Rattle.color.specs.declared.Rgb8.{Rgb8}
 use Rattle.silk_reader.specs.declared.head.Head.{Head}
@@ -51,7 +52,7 @@ file = head >>= lists
 -- nothing may follow the last row
 unfoldable pub ended : File → Reader File
 ended f [] = got f []
-ended f (c ∷ cs) = refused 10
+ended f (c ∷ cs) = refused Malformed
 
 -- how many bytes are read at most
 unfoldable pub max_bytes : ℕ
