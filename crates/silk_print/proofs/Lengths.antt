@@ -8,14 +8,13 @@ use native.Mathlib.Omega.{arith}
 use lib.Dec.{eqb}
 use lib.IntN.{ℤ, pos, negsuc, nat_abs}
 use lib.ListN.{length, get_or, length-append}
+use Rattle.std.specs.Prelude.{Option, None, Some}
 use Rattle.base.specs.Places.{table_from, table}
 use Rattle.base.proofs.Counting.{case}
 use Rattle.color.specs.Lab.{entry, lab_to_rgb8}
 use Rattle.color.specs.declared.Rgb8.{Rgb8}
 use Rattle.rules.specs.declared.Facts.{Facts}
 use Rattle.rules.specs.Entries.{SizesInRange}
-use Rattle.rules.specs.declared.LineIndex.{LineIndex}
-use Rattle.rules.specs.declared.LineIndex as line-index
 use Rattle.silk_reader.specs.Reader.{codes, newline}
 use Rattle.silk_print.specs.Print.{numeral, signed_numeral, hex_byte, hex_colour, each, number_text, index_text, clipped_text, sizes_text, head_text, colour_text, cell_text, cells_text, row_text, rows_text, colours_text, result_text, room_for}
 use Rattle.silk_print.specs.Claims.{RoomEnough, SheetRoom}
@@ -40,17 +39,17 @@ unfolding number_text newline
 number_text_lem key n h =
     omega (arith, both (length key + 10) 1 (key ++ numeral n) newline (both (length key) 10 key (numeral n) (omega arith) (numeral_short 9 n h)) (omega arith))
 
-index_text_lem : (l : LineIndex) → ((i : ℕ) → l ≡ line-index.TheVariants.Entry i → i < 10 ^ 10) → length (index_text l) ≤ 25
+index_text_lem : (l : Option ℕ) → ((i : ℕ) → l ≡ Some i → i < 10 ^ 10) → length (index_text l) ≤ 25
 unfolding index_text codes
-index_text_lem line-index.TheVariants.Nothing h = omega arith
-index_text_lem (line-index.TheVariants.Entry i) h = number_text_lem (codes "outline_index=") i (h i refl)
+index_text_lem None h = omega arith
+index_text_lem (Some i) h = number_text_lem (codes "outline_index=") i (h i refl)
 
 clipped_text_lem : (b : _) → length (clipped_text b) ≤ 18
 unfolding clipped_text codes
 clipped_text_lem true = omega arith
 clipped_text_lem false = omega arith
 
-head_text_lem : (facts : Facts) → SizesInRange facts → ((i : ℕ) → facts.outline_index ≡ line-index.TheVariants.Entry i → i < 10 ^ 10) → length (head_text facts) ≤ 97
+head_text_lem : (facts : Facts) → SizesInRange facts → ((i : ℕ) → facts.outline_index ≡ Some i → i < 10 ^ 10) → length (head_text facts) ≤ 97
 unfolding head_text sizes_text codes
 head_text_lem facts s h =
     let height = number_text (codes "height=") facts.height in

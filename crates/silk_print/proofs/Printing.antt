@@ -1,83 +1,98 @@
 -- Texts that are put into a buffer one after the other, by loops too. Assumes nothing.
-use Prim.Native.Nat.{ℕ, suc, ◌+◌, ◌-◌, ◌*◌, ◌/◌, ◌%◌, ◌≤◌, ◌<◌, zero-le}
-use mathlib.Core.Path.{◌≡◌, refl, sym, ap, ◌∙◌}
-use mathlib.Core.List.{List, [], ◌∷◌, ◌++◌, append_assoc, append-nil, flat_map}
-use native.Mathlib.Nat.{add-zero, sub-zero, suc-mul, le_refl}
-use native.Mathlib.Numerals.{add-one}
-use native.Mathlib.Omega.{arith}
-use lib.ListN.{length, set, length-append}
-use lib.Seq.{take_all}
+use Rattle.std.proofs.Common.{◌≡◌, ℕ, suc, ◌+◌, ◌-◌, ◌*◌, ◌/◌, ◌%◌, ◌≤◌, ◌<◌, List, [], ◌∷◌, ◌++◌, length, refl, sym, ap, ◌∙◌, append_assoc, append-nil, length-append, add-zero, add-one, zero-le, take, drop, arith}
+use Rattle.std.proofs.lemmas.Slice.{take-put_mid, drop-put_mid}
+use borrow.Rule.Slice.PartMut.{put_mid}
+use lib.ListN.{take-append-drop}
+use mathlib.Core.List.{flat_map}
+use native.Mathlib.Nat.{sub-zero, suc-mul, le_refl}
 use Rattle.base.specs.Places.{table_from, table}
-use Rattle.silk_print.specs.Print.{numeral, each, Put}
-use Rattle.silk_text.specs.Answers.{laid}
+use Rattle.base.proofs.Counting.{table_same}
+use Rattle.silk_print.specs.Print.{numeral, each, Put, Room}
+use Rattle.silk_print.specs.declared.Printer.{Printer}
 use Rattle.silk_print.proofs.Digits.{numeral_one, numeral-more, more-length}
-use Rattle.silk_text.proofs.Laying.{laid_none, laid-length, laid_more, laid_one, Copied, copied_all}
+use Rattle.silk_text.specs.Answers.{laid}
+use Rattle.silk_text.proofs.Laying.{laid_none, laid-length, laid_more}
 use Rattle.silk_text.proofs.Whole.{row_fits}
 
 -- ---- one after the other
 
-pub put_none : (at : ℕ) (old : List ℕ) → Put 0 [] at old old at
-put_none at old = record { short = omega arith; list = laid_none at old; next = sym (add-zero at) }
+pub put_none : (p : Printer) → Put 0 [] p p
+put_none p = record { short = omega arith; list = laid_none p.at p.out.now; next = sym (add-zero p.at); kept = refl; same = refl }
 
-pub put_one : (b at : ℕ) (old : List ℕ) → at < length old → Put 1 (b ∷ []) at old (set old at b) (at + 1)
-put_one b at old h = record { short = omega arith; list = laid_one at b old h; next = refl }
+-- what is left of a printer that put a text
+pub put_laid : {text : List ℕ} {a b : Printer} → Room (length text) a → b.out.now ≡ laid a.at text a.out.now → b.at ≡ a.at + length text → b.out.ghost_name ≡ a.out.ghost_name → Put (length text) text a b
+put_laid {text} {a} h e f g = record { short = le_refl (length text); list = e; next = f; kept = ap length e ∙ laid-length a.at text a.out.now h; same = g }
+
+-- what is left of a buffer when a text is laid over a part of it
+pub laid_mid : (a k : ℕ) (xs ys : List ℕ) → length ys ≡ k → a ≤ length xs → put_mid a k xs ys ≡ laid a ys xs
+unfolding laid
+laid_mid a k xs ys e h =
+    let n = a + length ys in
+    sym (take-append-drop n (put_mid a k xs ys))
+    ∙ ap (λ (l : List ℕ). l ++ drop n (put_mid a k xs ys)) (take-put_mid a k xs ys n refl h)
+    ∙ ap (λ (l : List ℕ). take a xs ++ ys ++ l) (drop-put_mid a k xs ys n (omega (arith, e)) h e)
 
 -- a text that is the same, with a bound that is no less
-pub put_as : {m n : ℕ} {s t : List ℕ} {at : ℕ} {old new : List ℕ} {e : ℕ} → Put m s at old new e → s ≡ t → m ≤ n → Put n t at old new e
-put_as {at = at} {old = old} p q h =
+pub put_as : {m n : ℕ} {s t : List ℕ} {a b : Printer} → Put m s a b → s ≡ t → m ≤ n → Put n t a b
+put_as {a = a} p q h =
     record {
       short = omega (arith, p.short, ap length q);
-      list = p.list ∙ ap (λ (l : List ℕ). laid at l old) q;
-      next = p.next ∙ ap (λ (l : List ℕ). at + length l) q;
+      list = p.list ∙ ap (λ (l : List ℕ). laid a.at l a.out.now) q;
+      next = p.next ∙ ap (λ (l : List ℕ). a.at + length l) q;
+      kept = p.kept;
+      same = p.same;
     }
 
-module _ {m : ℕ} {s : List ℕ} {at : ℕ} {old mid : List ℕ} {e : ℕ} (p : Put m s at old mid e) where
-  pub put_length : at + m ≤ length old → length mid ≡ length old
-  put_length h = ap length p.list ∙ laid-length at s old (omega (arith, p.short))
-
-  -- room for the next text
-  pub put_room : (n : ℕ) → at + (m + n) ≤ length old → e + n ≤ length mid
-  put_room n h = omega (arith, p.next, p.short, put_length (omega arith))
-
-  module _ {n : ℕ} {t new : List ℕ} {f : ℕ} (q : Put n t e mid new f) where
-    pub put_both : at + m ≤ length old → Put (m + n) (s ++ t) at old new f
-    put_both h =
-        record {
-          short = omega (arith, length-append s t, p.short, q.short);
-          list =
-              q.list
-              ∙ ap (λ (k : ℕ). laid k t mid) p.next
-              ∙ ap (λ (l : List ℕ). laid (at + length s) t l) p.list
-              ∙ laid_more at s t old (omega (arith, p.short));
-          next = omega (arith, q.next, p.next, length-append s t);
-        }
+pub put_both : {m n : ℕ} {s t : List ℕ} {a b c : Printer} → Put m s a b → Put n t b c → Room m a → Put (m + n) (s ++ t) a c
+put_both {s = s} {t = t} {a = a} {b = b} p q h =
+    record {
+      short = omega (arith, length-append s t, p.short, q.short);
+      list =
+          q.list
+          ∙ ap (λ (k : ℕ). laid k t b.out.now) p.next
+          ∙ ap (λ (l : List ℕ). laid (a.at + length s) t l) p.list
+          ∙ laid_more a.at s t a.out.now (omega (arith, p.short));
+      next = omega (arith, q.next, p.next, length-append s t);
+      kept = q.kept ∙ p.kept;
+      same = q.same ∙ p.same;
+    }
 
 -- three texts
-module _ {m n : ℕ} {s t : List ℕ} {at : ℕ} {old mid new : List ℕ} {e f : ℕ} (p : Put m s at old mid e) (q : Put n t e mid new f) where
-  pub third_room : (k : ℕ) → at + (m + n + k) ≤ length old → f + k ≤ length new
-  third_room k h = put_room (put_both p q (omega arith)) k h
+pub put_three : {m n k : ℕ} {s t u : List ℕ} {a b c d : Printer} → Put m s a b → Put n t b c → Put k u c d → Room (m + n + k) a → Put (m + n + k) (s ++ t ++ u) a d
+put_three p q r h = put_both (put_both p q (omega arith)) r (omega arith)
 
-  pub put_three : {k : ℕ} {u last : List ℕ} {g : ℕ} → Put k u f new last g → at + (m + n + k) ≤ length old → Put (m + n + k) (s ++ t ++ u) at old last g
-  put_three {k} r h = put_both (put_both p q (omega arith)) r (omega arith)
+-- ---- a number
+
+module _ {n d : ℕ} (e : d ≡ 48 + n % 10) where
+  pub number_one : n < 10 → {a b : Printer} → Put 1 (d ∷ []) a b → Put (length (numeral n)) (numeral n) a b
+  number_one h p =
+      let f : d ≡ 48 + n = omega arith in
+      put_as p (ap (λ (x : ℕ). x ∷ []) f ∙ sym (numeral_one n h)) (omega (arith, ap length (numeral_one n h)))
+
+  pub number_more : 10 ≤ n → {a b c : Printer} → Put (length (numeral (n / 10))) (numeral (n / 10)) a b → Put 1 (d ∷ []) b c → Room (length (numeral n)) a → Put (length (numeral n)) (numeral n) a c
+  number_more h p q r =
+      put_as (put_both p q (omega (arith, more-length n h))) (ap (λ (x : ℕ). numeral (n / 10) ++ x ∷ []) e ∙ sym (numeral-more n h)) (omega (arith, more-length n h))
 
 -- ---- loops
+
+pub each_same : (n : ℕ) (f g : ℕ → List ℕ) → ((i : ℕ) → i < n → f i ≡ g i) → each n f ≡ each n g
+unfolding each
+each_same n f g h = ap (flat_map (λ l. l)) (table_same n f g [] h)
 
 -- f i, f (i + 1), .., n of them
 unfoldable pub each_from : ℕ → ℕ → (ℕ → List ℕ) → List ℕ
 each_from i n f = flat_map (λ l. l) (table_from i n f)
 
--- with i of n texts put, each of at most m bytes, the buffer is `now` and the next place `to`
-pub record Printing (f : ℕ → List ℕ) (m n at : ℕ) (old : List ℕ) (i to : ℕ) (now : List ℕ) : Type 0 where
+-- with i of n texts put from `a` on, each of at most m bytes, the printer is `b`
+pub record Printing (f : ℕ → List ℕ) (m n : ℕ) (a : Printer) (i : ℕ) (b : Printer) : Type 0 where
   pub inside : i ≤ n
   pub done : List ℕ
-  pub put : Put (i * m) done at old now to
+  pub put : Put (i * m) done a b
   pub whole : each n f ≡ done ++ each_from i (n - i) f
-  pub kept : length now ≡ length old
 
-pub printing_none : (f : ℕ → List ℕ) (m n at : ℕ) (old : List ℕ) → Printing f m n at old 0 at old
+pub printing_none : (f : ℕ → List ℕ) (m n : ℕ) (a : Printer) → Printing f m n a 0 a
 unfolding each table each_from
-printing_none f m n at old =
-    record { inside = zero-le; done = []; put = put_as (put_none at old) refl zero-le; whole = rw (sub-zero n); kept = refl }
+printing_none f m n a = record { inside = zero-le; done = []; put = put_as (put_none a) refl zero-le; whole = rw (sub-zero n) refl }
 
 from_some : (f : ℕ → List ℕ) (i n : ℕ) → each_from i (suc n) f ≡ f i ++ each_from (suc i) n f
 unfolding each_from flat_map table_from
@@ -87,12 +102,13 @@ from_none : (f : ℕ → List ℕ) (i : ℕ) → each_from i 0 f ≡ []
 unfolding each_from flat_map table_from
 from_none f i = refl
 
-module _ {f : ℕ → List ℕ} {m n at : ℕ} {old : List ℕ} {i to : ℕ} {now : List ℕ} (g : Printing f m n at old i to now) where
-  pub printing_room : i < n → at + n * m ≤ length old → to + m ≤ length now
-  printing_room h r = put_room g.put m (omega (arith, row_fits n m (n * m) i (le_refl (n * m)) h))
+module _ {f : ℕ → List ℕ} {m n : ℕ} {a : Printer} {i : ℕ} {b : Printer} (g : Printing f m n a i b) where
+  pub printing_room : i < n → Room (n * m) a → Room m b
+  printing_room h r =
+      omega (arith, g.put.next, g.put.short, g.put.kept, row_fits n m (n * m) i (le_refl (n * m)) h)
 
-  pub printing_more : i < n → at + n * m ≤ length old → {new : List ℕ} {end : ℕ} → Put m (f i) to now new end → Printing f m n at old (i + 1) end new
-  printing_more h r {new} {end} p =
+  pub printing_more : i < n → Room (n * m) a → {c : Printer} → Put m (f i) b c → Printing f m n a (i + 1) c
+  printing_more h r p =
       let c : n - i ≡ suc (n - suc i) = omega arith in
       let next : (i + 1) * m ≡ i * m + m = rw (add-one i) (suc-mul i m) in
       record {
@@ -102,31 +118,10 @@ module _ {f : ℕ → List ℕ} {m n at : ℕ} {old : List ℕ} {i to : ℕ} {no
         whole =
             rw (add-one i)
             (g.whole ∙ rw (c, from_some f i (n - suc i)) (sym (append_assoc g.done (f i) (each_from (suc i) (n - suc i) f))));
-        kept = put_length p (printing_room h r) ∙ g.kept;
       }
 
-  pub printing_all : n ≤ i → Put (n * m) (each n f) at old now to
+  pub printing_all : n ≤ i → Put (n * m) (each n f) a b
   printing_all h =
       let c : n - i ≡ 0 = omega arith in
       let e : n ≡ i = omega (arith, g.inside) in
       put_as g.put (sym (g.whole ∙ rw (c, from_none f i) (append-nil g.done))) (rw e (le_refl (i * m)))
-
--- ---- a copy
-
-pub copied_put : {bytes : List ℕ} {at : ℕ} {old : List ℕ} {i : ℕ} {now : List ℕ} → Copied bytes (length bytes) at old i now → length bytes ≤ i → Put (length bytes) bytes at old now (at + i)
-copied_put {bytes} {at} {old} g h =
-    record {
-      short = le_refl (length bytes);
-      list = copied_all g h ∙ ap (λ (l : List ℕ). laid at l old) (take_all (length bytes) bytes (le_refl (length bytes)));
-      next = omega (arith, g.inside);
-    }
-
--- ---- a number
-
-module _ {n b : ℕ} {at : ℕ} {old : List ℕ} where
-  pub number_one : n < 10 → b ≡ 48 + n → {new : List ℕ} {e : ℕ} → Put 1 (b ∷ []) at old new e → Put (length (numeral n)) (numeral n) at old new e
-  number_one h d p = put_as p (ap (λ (x : ℕ). x ∷ []) d ∙ sym (numeral_one n h)) (omega (arith, ap length (numeral_one n h)))
-
-  pub number_more : 10 ≤ n → {mid : List ℕ} {e : ℕ} → Put (length (numeral (n / 10))) (numeral (n / 10)) at old mid e → b ≡ 48 + n % 10 → {new : List ℕ} {f : ℕ} → Put 1 (b ∷ []) e mid new f → at + length (numeral n) ≤ length old → Put (length (numeral n)) (numeral n) at old new f
-  number_more h p d q r =
-      put_as (put_both p q (omega (arith, more-length n h))) (ap (λ (x : ℕ). numeral (n / 10) ++ x ∷ []) d ∙ sym (numeral-more n h)) (omega (arith, more-length n h))

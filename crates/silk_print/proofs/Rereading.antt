@@ -15,10 +15,10 @@ use Rattle.base.specs.Places.{any}
 use Rattle.base.proofs.Counting.{case}
 use Rattle.hex_colour.specs.Hex.{space, mark, drop_while, stripped, digit, all_digits, pair, six_digits, hex_to_rgb8}
 use Rattle.color.specs.declared.Rgb8.{Rgb8}
-use Rattle.hex_colour.specs.declared.Hex.TheVariants.{Colour}
+use Rattle.std.specs.Prelude.{Ok}
 use Rattle.hex_colour.proofs.Digits.{space_no, digit-decimal, digit-small}
-use Rattle.silk_reader.specs.Reader.{got, chain, ◌>>=◌, ◌>>◌, give, codes, bytes, newline, take_while, span, in_line, is_digit, value, proper, proper_number, number, natural, minus, negative, at_minus, cell, cell_at}
-use Rattle.silk_reader.specs.Lines.{hex_of, hex_line, colour_line}
+use Rattle.silk_reader.specs.Reader.{got, codes, bytes, newline, take_while, span, in_line, is_digit, value, proper, proper_number, number, natural, minus, negative, at_minus, cell, cell_at}
+use Rattle.silk_reader.specs.Lines.{hex_line, colour_line}
 use Rattle.silk_print.specs.Claims.{InBytes}
 use Rattle.silk_print.specs.Print.{numeral, signed_numeral, cell_text, hex_digit, hex_byte, hex_colour, colour_text}
 use Rattle.silk_print.proofs.Digits.{numeral_one, numeral-more, more-length, numeral_short, hex_low, hex_high}
@@ -114,7 +114,7 @@ while_stops [] s = refl
 while_stops (x ∷ rest) s = rw s.next
 
 pub number-back : (n : ℕ) → n < 10 ^ 9 → (rest : List ℕ) → Stops rest → number (numeral n ++ rest) ≡ got n rest
-unfolding number span chain ◌>>=◌ proper_number
+unfolding number span proper_number
 number-back n h rest s =
     let f : take_while is_digit (numeral n ++ rest) ≡ numeral n =
     passing n rest ∙ ap (λ (l : List ℕ). numeral n ++ l) (while_stops rest s) ∙ append-nil (numeral n) in
@@ -127,12 +127,12 @@ no_minus n rest =
     ap (λ (c : ℕ). eqb c 45) (get_or-append (numeral n) rest 0 0 f.some) ∙ ne_eqb (get_or (numeral n) 0 0) 45 (λ e. omega (arith, f.low))
 
 cell-back : (z : ℤ) → nat_abs z < 10 ^ 9 → (rest : List ℕ) → Stops rest → cell (signed_numeral z ++ rest) ≡ got z rest
-unfolding cell natural negative minus at_minus ◌>>=◌ chain give signed_numeral
+unfolding cell natural negative minus at_minus signed_numeral
 cell-back (pos n) h rest s = rw (no_minus n rest, number-back n h rest s)
 cell-back (negsuc n) h rest s = rw (number-back (suc n) h rest s, ne_eqb (suc n) 0 (λ e. omega arith))
 
 pub cell-at-back : (x : ℕ) (z : ℤ) → nat_abs z < 10 ^ 9 → (rest : List ℕ) → Stops rest → cell_at x (cell_text x z ++ rest) ≡ got z rest
-unfolding cell_at cell_text ◌>>◌ bytes codes chain
+unfolding cell_at cell_text bytes codes
 cell-at-back x z h rest s = case (eqb x 0) (λ y. rw y (cell-back z h rest s)) (λ n. rw n (cell-back z h rest s))
 
 pub comma_stops : (x : ℕ) (z : ℤ) (rest : List ℕ) → Stops (cell_text (suc x) z ++ rest)
@@ -191,12 +191,12 @@ module _ {c₁ c₂ c₃ c₄ c₅ c₆ d₁ d₂ d₃ d₄ d₅ d₆ : ℕ} (a 
   unfolding take_while in_line
   six_while rest = rw (a.goes, b.goes, c.goes, d.goes, e.goes, f.goes)
 
-  six_means : hex_to_rgb8 (c₁ ∷ c₂ ∷ c₃ ∷ c₄ ∷ c₅ ∷ c₆ ∷ []) ≡ Colour (record { r = d₁ * 16 + d₂; g = d₃ * 16 + d₄; b = d₅ * 16 + d₆ })
+  six_means : hex_to_rgb8 (c₁ ∷ c₂ ∷ c₃ ∷ c₄ ∷ c₅ ∷ c₆ ∷ []) ≡ Ok (record { r = d₁ * 16 + d₂; g = d₃ * 16 + d₄; b = d₅ * 16 + d₆ })
   unfolding hex_to_rgb8 stripped drop_while six_digits all_digits any pair
   six_means = rw (a.dark, f.dark, a.plain, a.means, b.means, c.means, d.means, e.means, f.means, a.small, b.small, c.small, d.small, e.small, f.small)
 
 pub colour-back : (c : Rgb8) → InBytes c → (rest : List ℕ) → colour_line (colour_text c ++ rest) ≡ got c rest
-unfolding colour_line colour_text hex_line hex_colour hex_byte hex_of bytes codes newline span chain ◌>>=◌ ◌>>◌
+unfolding colour_text hex_line hex_colour hex_byte bytes codes newline span
 colour-back c h rest =
     let r₁ = hexed (c.r / 16) (omega (arith, h.red)) in
     let r₂ = hexed (c.r % 16) (omega arith) in

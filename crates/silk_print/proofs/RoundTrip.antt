@@ -13,7 +13,7 @@ use Rattle.base.proofs.Counting.{count_le}
 use Rattle.channel.specs.Channel.{threshold_of, byte_of}
 use Rattle.color.specs.Lab.{entry, lab_to_rgb8, mat_vec, rgb_from_xyz, xyz_of_lab}
 use Rattle.color.specs.declared.Lab.{Lab}
-use Rattle.silk_reader.specs.Reader.{got, Reader, chain, ◌>>=◌, give, newline, codes, series, number, cell_at, key_line, number_line}
+use Rattle.silk_reader.specs.Reader.{got, Reader, newline, codes, series, number, cell_at, key_line, number_line}
 use Rattle.silk_reader.specs.Lines.{colour_line}
 use Rattle.silk_text.specs.Format.{colour_lines, row_line, row_lines}
 use Rattle.silk_print.specs.Print.{numeral, cell_text, cells_text, number_text, colour_text, colours_text, row_text, rows_text, each}
@@ -51,7 +51,7 @@ module _ {A : Type 0} (P : List ℕ → Type 0) (p : ℕ → Reader A) (f : ℕ 
   follows i (suc n) rest q = rw (append_assoc (f (suc i)) (each_from (suc (suc i)) n f) rest) (next i (each_from (suc (suc i)) n f ++ rest))
 
   series-back : (n i : ℕ) → i + n ≤ m → (rest : List ℕ) → P rest → series i n p (each_from i n f ++ rest) ≡ got (table_from i n g) rest
-  unfolding each_from flat_map table_from series chain
+  unfolding each_from flat_map table_from series
   series-back zero i h rest q = refl
   series-back (suc n) i h rest q =
       rw (append_assoc (f i) (each_from (suc i) n f) rest, back i (omega arith) (each_from (suc i) n f ++ rest) (follows i n rest q), series-back n (suc i) (omega arith) rest q)
@@ -83,7 +83,7 @@ rows_are cells w (suc n) y =
     rw (rows_are cells w n (suc y), e, suc-mul n w, add_comm (n * w) w) (sym (take-add w (n * w) l))
 
 pub rows_reread : RowsReread
-unfolding RowsReread RowReread Reread row_lines rows_text each each_from table ◌>>=◌ chain give
+unfolding RowsReread RowReread Reread row_lines rows_text each each_from table
 rows_reread cells h w d fits rest =
     rw (
       series-back (λ _. Unit) (λ y. row_line w) (λ y. row_text cells (y * w) w) (λ y. take w (drop (y * w) cells)) h
@@ -107,7 +107,7 @@ in_bytes c =
     record { red = byte_small (get_or v 0 nan); green = byte_small (get_or v 1 nan); blue = byte_small (get_or v 2 nan) }
 
 pub colours_reread : ColoursReread
-unfolding ColoursReread Reread colour_lines colours_text each each_from table ◌>>=◌ chain give
+unfolding ColoursReread Reread colour_lines colours_text each each_from table
 colours_reread palette k rest =
     rw (series-back (λ _. Unit) (λ i. colour_line) (λ i. colour_text (lab_to_rgb8 (entry palette i))) (λ i. lab_to_rgb8 (entry palette i)) k
     (λ i l rest q. colour-back (lab_to_rgb8 (entry palette i)) (in_bytes (entry palette i)) rest)

@@ -1,12 +1,11 @@
 -- What reading makes of a printed text, and how much room a printed sheet takes. Definitions only. Assumes nothing.
-use Rattle.std.specs.Prelude.{ℕ, ◌+◌, ◌*◌, ◌^◌, ◌≤◌, ◌<◌, ◌≡◌, ℤ, pos, nat_abs, Float, length, get_or, take, drop}
+use Rattle.std.specs.Prelude.{ℕ, Some, ◌+◌, ◌*◌, ◌^◌, ◌≤◌, ◌<◌, ◌≡◌, ℤ, pos, nat_abs, Float, length, get_or, take, drop}
 use mathlib.Core.List.{List, ◌++◌, flat_map}
 use Rattle.base.specs.Places.{table}
 use Rattle.color.specs.Lab.{entry, lab_to_rgb8}
 use Rattle.color.specs.declared.Rgb8.{Rgb8}
 use Rattle.rules.specs.declared.Facts.{Facts}
 use Rattle.rules.specs.Entries.{SizesInRange}
-use Rattle.rules.specs.declared.LineIndex as line-index
 use Rattle.silk_reader.specs.Reader.{got, Reader, number_line}
 use Rattle.silk_reader.specs.Lines.{colour_line}
 use Rattle.silk_text.specs.Format.{doubles, colour_lines, row_line, row_lines, lists}
@@ -63,7 +62,7 @@ ListsReread =
 
 -- cells and an index of at most ten digits, as 32 bits hold them
 pub record TenDigits (facts : Facts) (cells : List ℤ) : Type 0 where
-  pub index : (i : ℕ) → facts.outline_index ≡ line-index.TheVariants.Entry i → i < 10 ^ 10
+  pub index : (i : ℕ) → facts.outline_index ≡ Some i → i < 10 ^ 10
   pub cell : (p : ℕ) → nat_abs (get_or cells p (pos 0)) < 10 ^ 10
 
 -- the room that is asked for holds the text

@@ -1,17 +1,16 @@
 -- The text that the program prints. Definitions only. Assumes nothing.
-use Rattle.std.specs.Prelude.{ℕ, zero, suc, ◌+◌, ◌*◌, ◌/◌, ◌%◌, ◌≤◌, ◌≡◌, Bool, true, false, ◌&&◌, cond, ltb, leb, eqb, ℤ, pos, negsuc, Float, length, get_or}
+use Rattle.std.specs.Prelude.{ℕ, zero, suc, ◌+◌, ◌*◌, ◌/◌, ◌%◌, ◌≤◌, ◌≡◌, Bool, true, false, ◌&&◌, cond, ltb, leb, eqb, ℤ, pos, negsuc, Float, length, get_or, Option, None, Some, Result, Ok, Err}
 use mathlib.Core.List.{List, [], ◌∷◌, ◌++◌, flat_map}
 use Rattle.base.specs.Places.{table}
+use Rattle.base.specs.declared.Refusal.{Refusal}
+use Rattle.base.specs.declared.Refusal.TheVariants.{ListTooShort}
 use Rattle.color.specs.Lab.{entry, lab_to_rgb8}
 use Rattle.color.specs.declared.Rgb8.{Rgb8}
-use Rattle.rules.specs.declared.LineIndex.{LineIndex}
-use Rattle.rules.specs.declared.LineIndex as line-index
 use Rattle.rules.specs.declared.Facts.{Facts}
 use Rattle.rules.specs.Entries.{SizesInRange}
 use Rattle.silk_reader.specs.Reader.{codes, newline}
 use Rattle.silk_text.specs.Answers.{laid}
-use Rattle.silk_print.specs.declared.Printed.{Printed}
-use Rattle.silk_print.specs.declared.Printed.TheVariants.{Bytes, Refused}
+use Rattle.silk_print.specs.declared.Printer.{Printer}
 
 -- ---- numbers and colours
 
@@ -52,9 +51,9 @@ unfoldable pub number_text : List ℕ → ℕ → List ℕ
 number_text key n = key ++ numeral n ++ newline
 
 -- the line of the outline's index
-unfoldable pub index_text : LineIndex → List ℕ
-index_text line-index.TheVariants.Nothing = codes "outline_index=none\n"
-index_text (line-index.TheVariants.Entry i) = number_text (codes "outline_index=") i
+unfoldable pub index_text : Option ℕ → List ℕ
+index_text None = codes "outline_index=none\n"
+index_text (Some i) = number_text (codes "outline_index=") i
 
 -- the line that tells whether the outline was clipped
 unfoldable pub clipped_text : Bool → List ℕ
@@ -131,23 +130,29 @@ result_fits facts palette cells out = lengths_fit facts (length palette) (length
 unfoldable pub refusal_fits : List ℕ → Bool
 refusal_fits out = leb 12 (length out)
 
--- the answer: how many bytes were put, or 2 where they do not fit
-unfoldable pub printed_answer : Bool → List ℕ → Printed
-printed_answer fits text = cond fits (Bytes (length text)) (Refused 2)
+-- the answer: how many bytes were put, or that the lists are too short
+unfoldable pub printed_answer : Bool → List ℕ → Result ℕ Refusal
+printed_answer fits text = cond fits (Ok (length text)) (Err ListTooShort)
 
 -- the buffer: the text at its front, or as it was
 unfoldable pub printed_buffer : Bool → List ℕ → List ℕ → List ℕ
 printed_buffer fits text out = cond fits (laid 0 text out) out
 
--- a text of at most n bytes is put into a buffer from a place on, and the place after it is told
-pub record Put (n : ℕ) (text : List ℕ) (at : ℕ) (old new : List ℕ) (end : ℕ) : Type 0 where
+-- room for n more bytes
+abbrev pub Room : ℕ → Printer → Type 0
+Room n p = p.at + n ≤ length p.out.now
+
+-- a text of at most n bytes is put, and the place after it comes next; the buffer is the one that was lent
+pub record Put (n : ℕ) (text : List ℕ) (old new : Printer) : Type 0 where
   pub short : length text ≤ n
-  pub list : new ≡ laid at text old
-  pub next : end ≡ at + length text
+  pub list : new.out.now ≡ laid old.at text old.out.now
+  pub next : new.at ≡ old.at + length text
+  pub kept : length new.out.now ≡ length old.out.now
+  pub same : new.out.ghost_name ≡ old.out.ghost_name
 
 -- a result with sizes in range, with lists that hold it and room for it
-pub record Printable (facts : Facts) (palette : List Float) (cells : List ℤ) (out : List ℕ) : Type 0 where
+pub record Printable (facts : Facts) (palette : List Float) (cells : List ℤ) (p : Printer) : Type 0 where
   pub sizes : SizesInRange facts
   pub entries : 3 * facts.colours ≤ length palette
   pub sheet : facts.height * facts.width ≤ length cells
-  pub room : room_for facts ≤ length out
+  pub room : Room (room_for facts) p

@@ -3,19 +3,20 @@ use Prim.Native.Nat.{ℕ, ◌+◌, ◌*◌, ◌≤◌}
 use mathlib.Core.Path.{◌≡◌, refl, ap, ◌∙◌}
 use mathlib.Core.Bool.{true}
 use mathlib.Core.List.{List}
-use mathlib.Core.Option.{Option, none, some}
+use Rattle.std.specs.Prelude.{Option, None, Some, Ok, Err}
 use native.Mathlib.Nat.{mul-add, mul_left_comm}
 use native.Mathlib.Omega.{arith}
 use lib.IntN.{ℤ}
 use lib.ListN.{length, length-append, length-drop}
-use Rattle.base.specs.Refusals.{unless}
+use Rattle.base.specs.Refusals.{unless, answered}
 use Rattle.base.proofs.Counting.{both, yes_leb}
 use Rattle.rules.specs.Calls.{RunCall}
 use Rattle.rules.specs.Entries.{facts_of, run_refusal, run_answer, run_cells, run_palette}
-use Rattle.rules.specs.Run.{Result, process}
+use Rattle.rules.specs.Run.{Processing, process}
 use Rattle.rules.specs.Sheet.{over}
 use Rattle.rules.specs.declared.Facts.{Facts}
-use Rattle.rules.specs.declared.Processing.TheVariants.{Processed, Refused}
+use Rattle.base.specs.declared.Refusal.{Refusal}
+use Rattle.rules.specs.declared.Processed.{Processed}
 use Rattle.postprocess.proofs.Chain.{left}
 use Rattle.silk_print.specs.Print.{room_for, lengths_fit}
 
@@ -44,24 +45,24 @@ over-length new lent = simp (length-append, length-drop) (omega arith)
 -- ---- a call on 42 by 42 cells
 
 module _ (x : RunCall) (lent : length x.lent.cells ≡ 1764) where
-  abbrev after : Result
+  abbrev after : Processing
   after = process x
 
   abbrev facts : Facts
   facts = facts_of after.sheet after.palette after.index after.clipped
 
-  accepted : run_refusal x ≡ none → lengths_fit facts (length after.palette.lab) (length (over after.sheet.cells x.lent.cells)) 32768 ≡ true
+  accepted : run_refusal x ≡ None → lengths_fit facts (length after.palette.lab) (length (over after.sheet.cells x.lent.cells)) 32768 ≡ true
   unfolding facts_of
   accepted e =
       let l = left x e in
       fitting facts _ _ l.high l.wide l.few (omega (arith, l.full)) (omega (arith, l.held)) (omega (arith, over-length after.sheet.cells x.lent.cells))
 
   -- what `run` answers is printed
-  pub printed : {f : Facts} {p q : ℕ} → run_answer x ≡ Processed f p q → lengths_fit f (length (run_palette x)) (length (run_cells x)) 32768 ≡ true
-  unfolding run_answer run_palette run_cells unless
-  printed {f} {p} {q} e = go (run_refusal x) refl e
+  pub printed : {done : Processed} → run_answer x ≡ Ok done → lengths_fit done.facts (length (run_palette x)) (length (run_cells x)) 32768 ≡ true
+  unfolding run_answer run_palette run_cells answered unless
+  printed {done} e = go (run_refusal x) refl e
     where
-      go : (o : Option ℕ) → run_refusal x ≡ o → unless o Refused (Processed facts after.passes after.again) ≡ Processed f p q →
-          lengths_fit f (length (unless o (λ n. x.palette.lab) after.palette.lab)) (length (unless o (λ n. x.lent.cells) (over after.sheet.cells x.lent.cells))) 32768 ≡ true
-      go none r t = let s : facts ≡ f = cc in rw (← s) (accepted r)
-      go (some n) r t = let z : ◌≡◌ {A = ℕ} 0 1 = cc in absurd (omega arith)
+      go : (o : Option Refusal) → run_refusal x ≡ o → unless o Err (Ok (record { facts = facts; passes = after.passes; again = after.again })) ≡ Ok done →
+          lengths_fit done.facts (length (unless o (λ n. x.palette.lab) after.palette.lab)) (length (unless o (λ n. x.lent.cells) (over after.sheet.cells x.lent.cells))) 32768 ≡ true
+      go None r t = let s : facts ≡ done.facts = cc in rw (← s) (accepted r)
+      go (Some n) r t = cc

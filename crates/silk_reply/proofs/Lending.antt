@@ -32,7 +32,6 @@ ended_same f [] (x ∷ a) (y ∷ b) p q = refl
 ended_same f (z ∷ rest) a b p q = refl
 
 chain_same : {A B : Type 0} (g : Got A) (f h : A → Reader B) → ((x : A) (rest : List ℕ) → f x rest ≡ h x rest) → chain g f ≡ chain g h
-unfolding chain
 chain_same (got x rest) f h e = e x rest
 chain_same (refused n) f h e = refl
 

@@ -8,20 +8,21 @@ use lib.ListN.{length, length-append, length-drop}
 use borrow.Author.Tests.{le-leb}
 use Rattle.silk_text.specs.Answers.{laid}
 use Rattle.silk_print.specs.Print.{refusal_text, refusal_fits, printed_answer, printed_buffer}
-use Rattle.silk_print.specs.declared.Printed.{Printed}
-use Rattle.silk_print.specs.declared.Printed.TheVariants.{Bytes}
-use Rattle.silk_reply.specs.Reply.{Front, counted}
+use Rattle.std.specs.Prelude.{Result, Ok}
+use Rattle.std.specs.Result.{result_unwrap_or}
+use Rattle.base.specs.declared.Refusal.{Refusal}
+use Rattle.silk_reply.specs.Reply.{Front}
 
 -- a text that fits is put at the front
-pub put : (fits : Bool) (text : List ℕ) {old new : List ℕ} {p : Printed} {r : ℕ} → fits ≡ true → p ≡ printed_answer fits text → new ≡ printed_buffer fits text old → r ≡ counted p →
+pub put : (fits : Bool) (text : List ℕ) {old new : List ℕ} {p : Result ℕ Refusal} {r : ℕ} → fits ≡ true → p ≡ printed_answer fits text → new ≡ printed_buffer fits text old → r ≡ result_unwrap_or p 0 →
     Front text old new r
-unfolding printed_answer printed_buffer counted
+unfolding printed_answer printed_buffer
 put fits text {p = p} f a b c =
-    let q : p ≡ Bytes (length text) = rw f at a in
-    record { list = rw f at b; size = c ∙ ap counted q }
+    let q : p ≡ Ok (length text) = rw f at a in
+    record { list = rw f at b; size = c ∙ ap (λ (x : Result ℕ Refusal). result_unwrap_or x 0) q }
 
-pub refusal_put : (n : ℕ) {old new : List ℕ} {p : Printed} {r : ℕ} → 12 ≤ length old → p ≡ printed_answer (refusal_fits old) (refusal_text n) →
-    new ≡ printed_buffer (refusal_fits old) (refusal_text n) old → r ≡ counted p → Front (refusal_text n) old new r
+pub refusal_put : (n : ℕ) {old new : List ℕ} {p : Result ℕ Refusal} {r : ℕ} → 12 ≤ length old → p ≡ printed_answer (refusal_fits old) (refusal_text n) →
+    new ≡ printed_buffer (refusal_fits old) (refusal_text n) old → r ≡ result_unwrap_or p 0 → Front (refusal_text n) old new r
 unfolding refusal_fits
 refusal_put n {old} h = put (refusal_fits old) (refusal_text n) (le-leb 12 (length old) h)
 

@@ -1,19 +1,18 @@
 -- What the program `silk` prints for the bytes of its standard input. Definitions only. Assumes nothing.
-use Rattle.std.specs.Prelude.{ℕ, ◌*◌, List, ◌≡◌, Float, ℤ, pos, length, replicate}
+use Rattle.std.specs.Prelude.{ℕ, ◌*◌, List, ◌≡◌, Float, ℤ, pos, length, replicate, Result, Ok, Err}
 use Rattle.base.specs.Doubles.{decimal}
+use Rattle.base.specs.Numbers.{number}
+use Rattle.base.specs.declared.Refusal.{Refusal}
 use Rattle.rules.specs.Entries.{run_answer, run_cells, run_palette}
 use Rattle.rules.specs.Calls.{RunCall}
 use Rattle.rules.specs.Palette.{palette_of}
 use Rattle.rules.specs.Sheet.{lent_sheet}
-use Rattle.rules.specs.declared.Processing.{Processing}
-use Rattle.rules.specs.declared.Processing.TheVariants.{Processed, Refused}
+use Rattle.rules.specs.declared.Processed.{Processed}
 use Rattle.silk_text.specs.Answers.{laid, lent}
 use Rattle.silk_text.specs.Format.{File, parse}
 use Rattle.silk_print.specs.Print.{result_text, refusal_text}
 use Rattle.silk_reader.specs.Reader.{Got, got, refused}
 use Rattle.silk_reader.specs.declared.head.Head.{Head}
-use Rattle.silk_print.specs.declared.Printed
-use Rattle.silk_print.specs.declared.Printed.{Printed}
 
 -- ---- the lists that the program lends
 
@@ -44,9 +43,9 @@ call_of h palette cells =
     }
 
 -- an answer of `run`, with the palette and the cells that it left
-unfoldable pub answer_text : Processing → List Float → List ℤ → List ℕ
-answer_text (Processed facts first second) palette cells = result_text facts palette cells
-answer_text (Refused n) palette cells = refusal_text n
+unfoldable pub answer_text : Result Processed Refusal → List Float → List ℤ → List ℕ
+answer_text (Ok done) palette cells = result_text done.facts palette cells
+answer_text (Err e) palette cells = refusal_text (number e)
 
 -- `run` on a sheet that was read
 unfoldable pub sheet_text : Head → List Float → List ℤ → List ℕ
@@ -55,7 +54,7 @@ sheet_text h palette cells = let c = call_of h palette cells in answer_text (run
 -- what reading came to
 unfoldable pub got_text : Got File → List ℕ
 got_text (got f rest) = sheet_text f.head f.palette f.cells
-got_text (refused n) = refusal_text n
+got_text (refused e) = refusal_text (number e)
 
 -- the text is read into the lent lists, its sheet is run, and the result or the refusal is printed
 unfoldable pub silk_text : List ℕ → List ℕ
@@ -64,7 +63,7 @@ silk_text text = got_text (lent no_colours no_cells (parse text))
 -- ---- the code's parts
 
 -- a call of `run` on the lent lists: its answer, and the palette and the cells that it left
-pub record Ran (c : RunCall) (answer : Processing) (palette : List Float) (cells : List ℤ) : Type 0 where
+pub record Ran (c : RunCall) (answer : Result Processed Refusal) (palette : List Float) (cells : List ℤ) : Type 0 where
   pub answers : answer ≡ run_answer c
   pub colours : palette ≡ run_palette c
   pub sheet : cells ≡ run_cells c
@@ -74,8 +73,3 @@ pub record Ran (c : RunCall) (answer : Processing) (palette : List Float) (cells
 pub record Front (text old new : List ℕ) (count : ℕ) : Type 0 where
   pub list : new ≡ laid 0 text old
   pub size : count ≡ length text
-
--- how many bytes were put
-unfoldable pub counted : Printed → ℕ
-counted (Printed.TheVariants.Bytes n) = n
-counted (Printed.TheVariants.Refused n) = 0

@@ -3,16 +3,18 @@
 
 ghost use Rattle.std.specs.Prelude.{◌<◌, ◌≡◌, length, take, OnOk};
 ghost use Rattle.std.specs.Io.KnownBytes.{IsAtEnd, Appends, Consumes};
+ghost use Rattle.base.specs.Numbers.{number};
 ghost use Rattle.silk_text.specs.Answers.{laid};
 ghost use Rattle.silk_print.specs.Print.{refusal_text};
-ghost use Rattle.silk_reply.specs.Reply.{call_of, sheet_text, silk_text, Ran, Front, counted};
+ghost use Rattle.silk_reply.specs.Reply.{call_of, sheet_text, silk_text, Ran, Front};
 
+use base::Refusal;
 use postprocess::run;
 use reading::{Filled, read_full};
-use rules::Processing;
-use silk_print::{Printed, print_refusal, print_result};
+use rules::Processed;
+use silk_print::{print_refusal, print_result};
 use silk_reader::head::Head;
-use silk_text::sheet::{Parsed, read};
+use silk_text::sheet::read;
 use std::io;
 use std::io::{Read, Write};
 
@@ -31,25 +33,19 @@ const CELLS: usize = 1764;
 // The work area: 8 numbers for each cell.
 const WORK: usize = 8 * CELLS;
 
-// How many bytes were put.
-fn count(printed: Printed) -> usize
-    ensures { result ≡ counted printed }
+// Prints a refusal's number: there is always room for it.
+fn put_refusal(refusal: Refusal, out: &mut [u8; ROOM]) -> usize
+    ensures { Front (refusal_text (number refusal)) out.old out.new result }
 {
-    match printed {
-        Printed::Bytes(n) => n,
-        Printed::Refused(_) => 0,
-    }
-}
-
-// Prints a refusal's number.
-fn put_refusal(n: u8, out: &mut [u8; ROOM]) -> usize
-    ensures { Front (refusal_text n) out.old out.new result }
-{
-    count(print_refusal(n, out))
+    print_refusal(refusal, out).unwrap_or(0)
 }
 
 // `run` on a sheet that was read.
-fn run_sheet(h: Head, palette: &mut [f64; DOUBLES], cells: &mut [i32; CELLS]) -> Processing
+fn run_sheet(
+    h: Head,
+    palette: &mut [f64; DOUBLES],
+    cells: &mut [i32; CELLS],
+) -> Result<Processed, Refusal>
     ensures { Ran (call_of h palette.old cells.old) result palette.new cells.new }
 {
     let config = h.config;
@@ -78,8 +74,8 @@ fn put_sheet(
     ensures { Front (sheet_text h palette.old cells.old) out.old out.new result }
 {
     match run_sheet(h, palette, cells) {
-        Processing::Processed(facts, _, _) => count(print_result(facts, palette, cells, out)),
-        Processing::Refused(n) => put_refusal(n, out),
+        Ok(done) => print_result(done.facts, palette, cells, out).unwrap_or(0),
+        Err(reason) => put_refusal(reason, out),
     }
 }
 
@@ -91,8 +87,8 @@ pub fn respond(text: &[u8], out: &mut [u8; ROOM]) -> usize
     let mut palette = [0.0; DOUBLES];
     let mut cells = [0i32; CELLS];
     match read(text, &mut palette, &mut cells) {
-        Parsed::Sheet(h) => put_sheet(h, &mut palette, &mut cells, out),
-        Parsed::Refused(n) => put_refusal(n, out),
+        Ok(h) => put_sheet(h, &mut palette, &mut cells, out),
+        Err(refusal) => put_refusal(refusal, out),
     }
 }
 
