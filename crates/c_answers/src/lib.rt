@@ -1,149 +1,136 @@
 // What C gets of an entry's answer: its number, and the facts at the front of a list.
 #![tactic(auto)]
 
-ghost use Rattle.std.specs.Prelude.{◌≡◌, cond, [], ◌∷◌, ℕ, ◌≤◌, length};
-ghost use Rattle.base.specs.Refusals.{refusal, filling};
+ghost use Rattle.std.specs.Prelude.{◌≡◌, [], ◌∷◌, ◌++◌, ◌≤◌, length, drop, IfOk};
+ghost use Rattle.base.specs.Refusals.{refusal, answered};
 ghost use Rattle.rules.specs.Rows.{too_large, too_short};
-ghost use Rattle.c_answers.specs.Outcomes.{given, status, received, done, labelled, cleaned, index_fact, facts_list, outlined, processed, coloured};
+ghost use Rattle.c_answers.specs.Outcomes.{status, received, one_fact, index_fact, facts_list, run_facts, three_bytes};
 ghost use Rattle.c_answers.specs.Room.{FactsFit};
 
-use base::Filling;
-use hex_colour::Hex;
+use base::Refusal;
+use color::Rgb8;
 use refusals::too_large;
-use rules::{Cleaning, Facts, Labelling, LineIndex, Outlining, Processing};
+use rules::{Facts, Processed};
 
 // Rows 1 and 2 of an entry that has a list of facts: a side above 512, or fewer places than facts.
-pub fn facts_rows(h: usize, w: usize, have: usize, need: usize) -> Filling
-    ensures { result ≡ filling (refusal (too_large h w ∷ too_short have need ∷ [])) }
+#[tactic(auto, unfolding(base::specs::Refusals::answered, base::specs::Refusals::unless, base::specs::Refusals::refusal, rules::specs::Rows::too_large, rules::specs::Rows::too_short))]
+pub fn facts_rows(h: usize, w: usize, have: usize, need: usize) -> Result<(), Refusal>
+    ensures { result ≡ answered (refusal (too_large h w ∷ too_short have need ∷ [])) tt }
 {
     if too_large(h, w) {
-        return Filling::Refused(1);
+        return Err(Refusal::SideTooLong);
     }
     if have < need {
-        return Filling::Refused(2);
+        return Err(Refusal::ListTooShort);
     }
-    Filling::Done
+    Ok(())
 }
 
 // The number of an entry that gives nothing but its outputs.
-pub fn number(answer: Filling) -> u32
-    ensures { result ≡ status (done answer) }
+pub fn number(answer: Result<(), Refusal>) -> u32
+    ensures { result ≡ status answer }
 {
     match answer {
-        Filling::Done => 0,
-        Filling::Refused(n) => n as u32,
+        Ok(()) => 0,
+        Err(e) => u32::from(e.number()),
     }
 }
 
-// The number of regions is the one fact.
-pub fn tell_regions(answer: Labelling, facts: &mut [u32]) -> u32
-    requires { 1 ≤ length facts.old }
-    ensures value { result ≡ status (labelled answer) }
-    ensures facts_after { facts.new ≡ received (labelled answer) facts.old }
+// Numbers put at the front of a list.
+fn put<T: Copy>(numbers: &[T], list: &mut [T])
+    requires { length numbers.now ≤ length list.old }
+    ensures { list.new ≡ numbers.now ++ drop (length numbers.now) list.old }
 {
-    match answer {
-        Labelling::Refused(n) => n as u32,
-        Labelling::Regions(n) => {
-            facts[0] = n;
-            0
-        }
-    }
+    list[..numbers.len()].copy_from_slice(numbers);
 }
 
-// The count of repainting passes is the one fact.
-pub fn tell_passes(answer: Cleaning, facts: &mut [u32]) -> u32
+// A count is the one fact.
+pub fn tell_count(answer: Result<u32, Refusal>, facts: &mut [u32]) -> u32
     requires { 1 ≤ length facts.old }
-    ensures value { result ≡ status (cleaned answer) }
-    ensures facts_after { facts.new ≡ received (cleaned answer) facts.old }
+    ensures value { result ≡ status answer }
+    ensures facts_after { facts.new ≡ received one_fact answer facts.old }
 {
     match answer {
-        Cleaning::Refused(n) => n as u32,
-        Cleaning::Passes(n) => {
-            facts[0] = n;
+        Ok(n) => {
+            put(&[n], facts);
             0
         }
+        Err(e) => u32::from(e.number()),
     }
 }
 
 // An index as a fact: one more, and 0 for none.
-fn index_fact(index: LineIndex) -> u32
+fn index_fact(index: Option<u32>) -> u32
     requires { index_fact index ≤ 256 }
     ensures { result ≡ index_fact index }
 {
     match index {
-        LineIndex::Nothing => 0,
-        LineIndex::Entry(i) => i + 1,
+        None => 0,
+        Some(i) => i + 1,
     }
 }
 
-// A switch as a fact.
-fn flag(b: bool) -> u32
-    ensures { result ≡ cond b 1 0 }
+// Height, width, colours, index and clipped.
+fn facts_list(f: Facts) -> [u32; 5]
+    requires { FactsFit f }
+    ensures { result ≡ facts_list f }
 {
-    if b { 1 } else { 0 }
-}
-
-// Writes height, width, colours, index and clipped.
-fn put_facts(f: Facts, facts: &mut [u32])
-    requires facts_fit { FactsFit f }
-    requires in_bounds { 5 ≤ length facts.old }
-    ensures { facts.new ≡ received (given (facts_list f)) facts.old }
-{
-    let index = f.outline_index;
-    facts[0] = f.height as u32;
-    facts[1] = f.width as u32;
-    facts[2] = f.colours as u32;
-    facts[3] = index_fact(index);
-    facts[4] = flag(f.outline_clipped);
+    [
+        f.height as u32,
+        f.width as u32,
+        f.colours as u32,
+        index_fact(f.outline_index),
+        u32::from(f.outline_clipped),
+    ]
 }
 
 // The facts of a sheet that was outlined.
-pub fn tell_outline(answer: Outlining, facts: &mut [u32]) -> u32
-    requires facts_fit { (f : Facts) → answer ≡ Outlining.Drawn f → FactsFit f }
+pub fn tell_outline(answer: Result<Facts, Refusal>, facts: &mut [u32]) -> u32
+    requires facts_fit { IfOk answer FactsFit }
     requires in_bounds { 5 ≤ length facts.old }
-    ensures value { result ≡ status (outlined answer) }
-    ensures facts_after { facts.new ≡ received (outlined answer) facts.old }
+    ensures value { result ≡ status answer }
+    ensures facts_after { facts.new ≡ received facts_list answer facts.old }
 {
     match answer {
-        Outlining::Refused(n) => n as u32,
-        Outlining::Drawn(f) => {
-            put_facts(f, facts);
+        Ok(f) => {
+            put(&facts_list(f), facts);
             0
         }
+        Err(e) => u32::from(e.number()),
     }
 }
 
 // The facts of a sheet that was run, and the passes of both cleanings.
-pub fn tell_run(answer: Processing, facts: &mut [u32]) -> u32
-    requires facts_fit { (f : Facts) (p q : ℕ) → answer ≡ Processing.Processed f p q → FactsFit f }
+pub fn tell_run(answer: Result<Processed, Refusal>, facts: &mut [u32]) -> u32
+    requires facts_fit { IfOk answer (λ p. FactsFit p.facts) }
     requires in_bounds { 7 ≤ length facts.old }
-    ensures value { result ≡ status (processed answer) }
-    ensures facts_after { facts.new ≡ received (processed answer) facts.old }
+    ensures value { result ≡ status answer }
+    ensures facts_after { facts.new ≡ received run_facts answer facts.old }
 {
     match answer {
-        Processing::Refused(n) => n as u32,
-        Processing::Processed(f, passes, again) => {
-            put_facts(f, facts);
-            facts[5] = passes;
-            facts[6] = again;
+        Ok(p) => {
+            let [height, width, colours, index, clipped] = facts_list(p.facts);
+            put(
+                &[height, width, colours, index, clipped, p.passes, p.again],
+                facts,
+            );
             0
         }
+        Err(e) => u32::from(e.number()),
     }
 }
 
 // The three bytes of a colour.
-pub fn tell_colour(answer: Hex, out: &mut [u8]) -> u32
+pub fn tell_colour(answer: Result<Rgb8, Refusal>, out: &mut [u8]) -> u32
     requires { 3 ≤ length out.old }
-    ensures value { result ≡ status (coloured answer) }
-    ensures out_after { out.new ≡ received (coloured answer) out.old }
+    ensures value { result ≡ status answer }
+    ensures out_after { out.new ≡ received three_bytes answer out.old }
 {
     match answer {
-        Hex::Refused(n) => n as u32,
-        Hex::Colour(c) => {
-            out[0] = c.r;
-            out[1] = c.g;
-            out[2] = c.b;
+        Ok(c) => {
+            put(&[c.r, c.g, c.b], out);
             0
         }
+        Err(e) => u32::from(e.number()),
     }
 }

@@ -1,11 +1,12 @@
 -- The facts of an accepted outline, or run, fit 32-bit numbers: sides up to 514, at most 256 colours, and an index among them. Assumes nothing.
 use Prim.Native.Nat.{ℕ, ◌≤◌, ◌<◌}
-use mathlib.Core.Path.{◌≡◌, refl, sym, subst, ◌∙◌}
+use mathlib.Core.Path.{◌≡◌, refl, sym, subst}
 use mathlib.Core.Bool.{Bool, true, false, ◌||◌, cond}
-use mathlib.Core.Option.{Option, none, some}
+use Rattle.std.specs.Prelude.{Option, None, Some, Result, IfOk}
 use native.Mathlib.Omega.{arith}
 use lib.Dec.{ltb}
-use Rattle.base.specs.Refusals.{unless}
+use Rattle.base.specs.declared.Refusal.{Refusal}
+use Rattle.base.specs.Refusals.{unless, answered}
 use Rattle.base.proofs.Counting.{case}
 use Rattle.color.specs.declared.Lab.{Lab}
 use Rattle.refusals.proofs.Rows.{sheet_room, palette_room}
@@ -13,12 +14,7 @@ use Rattle.outline_entry.proofs.Choosing.{index_below}
 use Rattle.rules.specs.declared.Limits.{Limits}
 use Rattle.rules.specs.declared.Drawing.{Drawing}
 use Rattle.rules.specs.declared.Facts.{Facts}
-use Rattle.rules.specs.declared.Outlining.{Outlining}
-use Rattle.rules.specs.declared.Outlining.TheVariants as outlinings
-use Rattle.rules.specs.declared.Outlining.TheVariants.{Drawn}
-use Rattle.rules.specs.declared.Processing.{Processing}
-use Rattle.rules.specs.declared.Processing.TheVariants as processings
-use Rattle.rules.specs.declared.Processing.TheVariants.{Processed}
+use Rattle.rules.specs.declared.Processed.{Processed}
 use Rattle.rules.specs.Calls.{OutlineCall, RunCall}
 use Rattle.rules.specs.Corners.{trim}
 use Rattle.rules.specs.Entries.{facts_of, outline_refusal, outline_answer, run_refusal, run_answer}
@@ -27,7 +23,6 @@ use Rattle.rules.specs.Palette.{Palette}
 use Rattle.rules.specs.Run.{limits_of, clean_sheet, clean_sheet_if, toned_palette, drawing_of, outline_if, first_cleaning, outlined_run, cleans_again, second_cleaning, process}
 use Rattle.rules.specs.Sheet.{Sheet, sheet_of, sheet_in}
 use Rattle.rules.proofs.Sizes.{canvas_sides, toned-count}
-use Rattle.c_answers.specs.Outcomes.{index_fact}
 use Rattle.c_answers.specs.Room.{FactsFit}
 
 -- ---- the palette after a choice
@@ -42,7 +37,7 @@ count-after palette c (replace i) h k = h
 
 outline-small : (may : ℕ → Bool) (how : Drawing) (palette : Palette) (s : Sheet) → s.height ≤ 512 → s.width ≤ 512 → palette.count ≤ 256
     → let o = outline may how palette s in FactsFit (facts_of o.sheet o.palette o.index o.clipped)
-unfolding outline drawn inked facts_of index_fact
+unfolding outline drawn inked facts_of
 outline-small may how palette s h w k =
     let on = canvas (pads how s) s in
     let c = line_colour palette how.outline in
@@ -67,7 +62,7 @@ cut_sides false s = (refl, refl)
 
 line_small : (may : ℕ → Bool) (how : Drawing) (palette : Palette) (s : Sheet) → s.height ≤ 512 → s.width ≤ 512 → palette.count ≤ 256
     → let o = outline_if may how palette s in FactsFit (facts_of o.sheet o.palette o.index o.clipped)
-unfolding outline_if facts_of index_fact
+unfolding outline_if facts_of
 line_small may how palette s h w k =
     case (asked how.outline)
     (λ y. rw y (outline-small may how palette s h w k))
@@ -87,30 +82,28 @@ process-small c h w k =
 
 -- ---- the entries
 
--- an answer that is no refusal
-accepted : {A : Type 0} (o : Option ℕ) (f : ℕ → A) (x y : A) → ((n : ℕ) → f n ≡ y → ⊥) → unless o f x ≡ y → (o ≡ none) × (x ≡ y)
-unfolding unless
-accepted none f x y g e = (refl, e)
-accepted (some n) f x y g e = absurd (g n e)
+-- what an answer that is no refusal comes to
+accepted : {A : Type 0} (o : Option Refusal) (x : A) (P : A → Type 0) → (o ≡ None → P x) → IfOk (answered o x) P
+unfolding answered unless
+accepted None x P h = h refl
+accepted (Some e) x P h = tt
 
-pub drawn-small : (c : OutlineCall) {o : Outlining} → o ≡ outline_answer c → (f : Facts) → o ≡ Drawn f → FactsFit f
+pub drawn-small : (c : OutlineCall) {o : Result Facts Refusal} → o ≡ outline_answer c → IfOk o FactsFit
 unfolding outline_answer outline_refusal sheet_of
-drawn-small c d f e =
-    let a = accepted (outline_refusal c) outlinings.Refused _ (Drawn f) (λ n q. (let z : ◌≡◌ {A = ℕ} 0 1 = cc in omega arith)) (sym d ∙ e) in
-    let r = sheet_room _ a.0 in
+drawn-small c d =
+    subst (λ (o : Result Facts Refusal). IfOk o FactsFit) (sym d)
+    (accepted (outline_refusal c) _ FactsFit
+    (λ z.
+    let r = sheet_room _ z in
     let u = palette_room _ r.1 in
-    subst FactsFit (same a.1) (outline-small (λ i. true) c.how c.palette (sheet_in c.lent) r.0.high r.0.wide u.0.few)
-  where
-    same : {x y : Facts} → Drawn x ≡ Drawn y → x ≡ y
-    same r = cc
+    outline-small (λ i. true) c.how c.palette (sheet_in c.lent) r.0.high r.0.wide u.0.few))
 
-pub processed-small : (c : RunCall) {o : Processing} → o ≡ run_answer c → (f : Facts) (p q : ℕ) → o ≡ Processed f p q → FactsFit f
+pub processed-small : (c : RunCall) {o : Result Processed Refusal} → o ≡ run_answer c → IfOk o (λ p. FactsFit p.facts)
 unfolding run_answer run_refusal
-processed-small c d f p q e =
-    let a = accepted (run_refusal c) processings.Refused _ (Processed f p q) (λ n r. (let z : ◌≡◌ {A = ℕ} 0 1 = cc in omega arith)) (sym d ∙ e) in
-    let r = sheet_room _ a.0 in
+processed-small c d =
+    subst (λ (o : Result Processed Refusal). IfOk o (λ p. FactsFit p.facts)) (sym d)
+    (accepted (run_refusal c) _ (λ p. FactsFit p.facts)
+    (λ z.
+    let r = sheet_room _ z in
     let u = palette_room _ r.1 in
-    subst FactsFit (same a.1) (process-small c r.0.high r.0.wide u.0.few)
-  where
-    same : {x y : Facts} {m n : ℕ} → Processed x m n ≡ Processed y p q → x ≡ y
-    same r = cc
+    process-small c r.0.high r.0.wide u.0.few))

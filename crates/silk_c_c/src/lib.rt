@@ -1,8 +1,10 @@
 // The static library for C: each export calls the function of silk_c that has its name, and promises the same. Declared in include/silk.h.
 #![tactic(auto)]
 
-ghost use Rattle.std.specs.Prelude.{◌≡◌, [], ◌∷◌, ltb, length};
-ghost use Rattle.base.specs.Refusals.{row, refusal, unless, filling};
+ghost use Rattle.std.specs.Prelude.{◌≡◌, ℕ, [], ◌∷◌, ltb, length, Result, Err};
+ghost use Rattle.base.specs.declared.Refusal.{Refusal};
+ghost use Rattle.base.specs.declared.Refusal.TheVariants.{ListTooShort};
+ghost use Rattle.base.specs.Refusals.{row, refusal, unless, answered};
 ghost use Rattle.color_lists.specs.Entries.{rgb8_to_lab_rows, rgb8_to_lab_out, lab_to_rgb8_rows, lab_to_rgb8_out, delta_e_rows, delta_e_out, matrix_rows, matrix_out, nearest_rows, nearest_out};
 ghost use Rattle.hex_colour.specs.Hex.{hex_to_rgb8};
 ghost use Rattle.rules.specs.Palette.{palette_of};
@@ -11,12 +13,14 @@ ghost use Rattle.rules.specs.Entries.{orphans_answer, orphans_cells, jaggies_ans
 ghost use Rattle.rules.specs.Calls.{limits_at, OrphansCall, JaggiesCall, OutlineCall, RunCall};
 ghost use Rattle.rules.specs.Sheet.{lent_sheet};
 ghost use Rattle.silk_c.specs.Arguments.{outline_of, beta_of, config_of};
-ghost use Rattle.c_answers.specs.Outcomes.{CAnswer, refused, status, received, after_facts_rows, done, labelled, cleaned, outlined, processed, coloured};
+ghost use Rattle.rules.specs.declared.Facts.{Facts};
+ghost use Rattle.rules.specs.declared.Processed.{Processed};
+ghost use Rattle.c_answers.specs.Outcomes.{status, received, after_facts_rows, one_fact, facts_list, run_facts, three_bytes};
 
 // Colours of sRGB as colours of CIELAB.
 #[unsafe(no_mangle)]
 pub extern "C" fn silk_rgb8_to_lab(rgb: &[u8], out: &mut [f64]) -> u32
-    ensures value { result ≡ status (done (filling (refusal (rgb8_to_lab_rows rgb.now (length out.old))))) }
+    ensures value { result ≡ status (answered (refusal (rgb8_to_lab_rows rgb.now (length out.old))) (tt {0})) }
     ensures out_after { out.new ≡ rgb8_to_lab_out rgb.now out.old }
 {
     silk_c::silk_rgb8_to_lab(rgb, out)
@@ -25,7 +29,7 @@ pub extern "C" fn silk_rgb8_to_lab(rgb: &[u8], out: &mut [f64]) -> u32
 // Colours of CIELAB as colours of sRGB.
 #[unsafe(no_mangle)]
 pub extern "C" fn silk_lab_to_rgb8(lab: &[f64], out: &mut [u8]) -> u32
-    ensures value { result ≡ status (done (filling (refusal (lab_to_rgb8_rows lab.now (length out.old))))) }
+    ensures value { result ≡ status (answered (refusal (lab_to_rgb8_rows lab.now (length out.old))) (tt {0})) }
     ensures out_after { out.new ≡ lab_to_rgb8_out lab.now out.old }
 {
     silk_c::silk_lab_to_rgb8(lab, out)
@@ -34,7 +38,7 @@ pub extern "C" fn silk_lab_to_rgb8(lab: &[f64], out: &mut [u8]) -> u32
 // The distances of the colours of two lists, pair by pair.
 #[unsafe(no_mangle)]
 pub extern "C" fn silk_delta_e(a: &[f64], b: &[f64], out: &mut [f64]) -> u32
-    ensures value { result ≡ status (done (filling (refusal (delta_e_rows a.now b.now (length out.old))))) }
+    ensures value { result ≡ status (answered (refusal (delta_e_rows a.now b.now (length out.old))) (tt {0})) }
     ensures out_after { out.new ≡ delta_e_out a.now b.now out.old }
 {
     silk_c::silk_delta_e(a, b, out)
@@ -43,7 +47,7 @@ pub extern "C" fn silk_delta_e(a: &[f64], b: &[f64], out: &mut [f64]) -> u32
 // The index of the nearest palette entry for each pixel.
 #[unsafe(no_mangle)]
 pub extern "C" fn silk_nearest_index(pixels: &[f64], palette: &[f64], out: &mut [i32]) -> u32
-    ensures value { result ≡ status (done (filling (refusal (nearest_rows pixels.now palette.now (length out.old))))) }
+    ensures value { result ≡ status (answered (refusal (nearest_rows pixels.now palette.now (length out.old))) (tt {0})) }
     ensures out_after { out.new ≡ nearest_out pixels.now palette.now out.old }
 {
     silk_c::silk_nearest_index(pixels, palette, out)
@@ -52,7 +56,7 @@ pub extern "C" fn silk_nearest_index(pixels: &[f64], palette: &[f64], out: &mut 
 // The distances of all colours of a palette from each other, row after row.
 #[unsafe(no_mangle)]
 pub extern "C" fn silk_palette_distance_matrix(palette: &[f64], out: &mut [f64]) -> u32
-    ensures value { result ≡ status (done (filling (refusal (matrix_rows palette.now (length out.old))))) }
+    ensures value { result ≡ status (answered (refusal (matrix_rows palette.now (length out.old))) (tt {0})) }
     ensures out_after { out.new ≡ matrix_out palette.now out.old }
 {
     silk_c::silk_palette_distance_matrix(palette, out)
@@ -61,8 +65,8 @@ pub extern "C" fn silk_palette_distance_matrix(palette: &[f64], out: &mut [f64])
 // The colour that a text names, as three bytes.
 #[unsafe(no_mangle)]
 pub extern "C" fn silk_hex_to_rgb8(text: &[u8], out: &mut [u8]) -> u32
-    ensures value { result ≡ status (unless (refusal (row 2 (ltb (length out.old) 3) ∷ [])) refused (coloured (hex_to_rgb8 text.now))) }
-    ensures out_after { out.new ≡ received (unless (refusal (row 2 (ltb (length out.old) 3) ∷ [])) refused (coloured (hex_to_rgb8 text.now))) out.old }
+    ensures value { result ≡ status (unless (refusal (row ListTooShort (ltb (length out.old) 3) ∷ [])) Err (hex_to_rgb8 text.now)) }
+    ensures out_after { out.new ≡ received three_bytes (unless (refusal (row ListTooShort (ltb (length out.old) 3) ∷ [])) Err (hex_to_rgb8 text.now)) out.old }
 {
     silk_c::silk_hex_to_rgb8(text, out)
 }
@@ -77,10 +81,10 @@ pub extern "C" fn silk_label_regions(
     work: &mut [u32],
     facts: &mut [u32],
 ) -> u32
-    ensures { (let answer : CAnswer = after_facts_rows h w (length facts.old) 1 refused (labelled (regions_answer cells.now h w labels.old (length work.old))) in
+    ensures { (let answer : Result ℕ Refusal = after_facts_rows h w (length facts.old) 1 Err (regions_answer cells.now h w labels.old (length work.old)) in
         (result ≡ status answer)
         × (labels.new ≡ after_facts_rows h w (length facts.old) 1 (λ n. labels.old) (regions_labels cells.now h w labels.old (length work.old)))
-        × (facts.new ≡ received answer facts.old)) }
+        × (facts.new ≡ received one_fact answer facts.old)) }
 {
     silk_c::silk_label_regions(cells, h, w, labels, work, facts)
 }
@@ -95,10 +99,10 @@ pub extern "C" fn silk_label4(
     work: &mut [u32],
     facts: &mut [u32],
 ) -> u32
-    ensures { (let answer : CAnswer = after_facts_rows h w (length facts.old) 1 refused (labelled (mask_answer mask.now h w labels.old (length work.old))) in
+    ensures { (let answer : Result ℕ Refusal = after_facts_rows h w (length facts.old) 1 Err (mask_answer mask.now h w labels.old (length work.old)) in
         (result ≡ status answer)
         × (labels.new ≡ after_facts_rows h w (length facts.old) 1 (λ n. labels.old) (mask_labels mask.now h w labels.old (length work.old)))
-        × (facts.new ≡ received answer facts.old)) }
+        × (facts.new ≡ received one_fact answer facts.old)) }
 {
     silk_c::silk_label4(mask, h, w, labels, work, facts)
 }
@@ -113,7 +117,7 @@ pub extern "C" fn silk_binary_dilation8(
     out: &mut [u8],
     work: &mut [u32],
 ) -> u32
-    ensures value { result ≡ status (done (dilation_answer mask.now h w k out.old (length work.old))) }
+    ensures value { result ≡ status (dilation_answer mask.now h w k out.old (length work.old)) }
     ensures out_after { out.new ≡ dilation_out mask.now h w k out.old (length work.old) }
 {
     silk_c::silk_binary_dilation8(mask, h, w, k, out, work)
@@ -139,10 +143,10 @@ pub extern "C" fn silk_remove_orphans(
       limits = limits_at orphan_min_region orphan_max_delta;
       passes = max_passes;
     } in
-        let answer : CAnswer = after_facts_rows h w (length facts.old) 1 refused (cleaned (orphans_answer call)) in
+        let answer : Result ℕ Refusal = after_facts_rows h w (length facts.old) 1 Err (orphans_answer call) in
         (result ≡ status answer)
         × (cells.new ≡ after_facts_rows h w (length facts.old) 1 (λ n. cells.old) (orphans_cells call))
-        × (facts.new ≡ received answer facts.old)) }
+        × (facts.new ≡ received one_fact answer facts.old)) }
 {
     silk_c::silk_remove_orphans(
         cells,
@@ -162,7 +166,7 @@ pub extern "C" fn silk_remove_orphans(
 #[unsafe(no_mangle)]
 pub extern "C" fn silk_fix_jaggies(cells: &mut [i32], h: usize, w: usize, work: &mut [u32]) -> u32
     ensures { (let call : JaggiesCall = record { lent = lent_sheet cells.old h w (length work.old) } in
-        (result ≡ status (done (jaggies_answer call))) × (cells.new ≡ jaggies_cells call)) }
+        (result ≡ status (jaggies_answer call)) × (cells.new ≡ jaggies_cells call)) }
 {
     silk_c::silk_fix_jaggies(cells, h, w, work)
 }
@@ -190,11 +194,11 @@ pub extern "C" fn silk_add_outline(
       palette = palette_of palette.old k;
       how = record { outline = outline_of kind darken r g b; allow_pad = is_set allow_pad; fixed_palette = is_set fixed_palette };
     } in
-        let answer : CAnswer = after_facts_rows h w (length facts.old) 5 refused (outlined (outline_answer call)) in
+        let answer : Result Facts Refusal = after_facts_rows h w (length facts.old) 5 Err (outline_answer call) in
         (result ≡ status answer)
         × (cells.new ≡ after_facts_rows h w (length facts.old) 5 (λ n. cells.old) (outline_cells call))
         × (palette.new ≡ after_facts_rows h w (length facts.old) 5 (λ n. palette.old) (outline_palette call))
-        × (facts.new ≡ received answer facts.old)) }
+        × (facts.new ≡ received facts_list answer facts.old)) }
 {
     silk_c::silk_add_outline(
         cells,
@@ -217,7 +221,7 @@ pub extern "C" fn silk_add_outline(
 // A palette's a and b multiplied by beta.
 #[unsafe(no_mangle)]
 pub extern "C" fn silk_apply_saturation(palette: &mut [f64], k: usize, beta: f64) -> u32
-    ensures value { result ≡ status (done (saturation_answer (palette_of palette.old k) beta)) }
+    ensures value { result ≡ status (saturation_answer (palette_of palette.old k) beta) }
     ensures palette_after { palette.new ≡ saturation_palette (palette_of palette.old k) beta }
 {
     silk_c::silk_apply_saturation(palette, k, beta)
@@ -256,11 +260,11 @@ pub extern "C" fn silk_run(
       fixed = is_set fixed_palette;
       margin = margin;
     } in
-        let answer : CAnswer = after_facts_rows h w (length facts.old) 7 refused (processed (run_answer call)) in
+        let answer : Result Processed Refusal = after_facts_rows h w (length facts.old) 7 Err (run_answer call) in
         (result ≡ status answer)
         × (cells.new ≡ after_facts_rows h w (length facts.old) 7 (λ n. cells.old) (run_cells call))
         × (palette.new ≡ after_facts_rows h w (length facts.old) 7 (λ n. palette.old) (run_palette call))
-        × (facts.new ≡ received answer facts.old)) }
+        × (facts.new ≡ received run_facts answer facts.old)) }
 {
     silk_c::silk_run(
         cells,
