@@ -1,5 +1,2 @@
-pub mod Bits
-pub mod Filling
-pub mod Agreeing
+pub mod Elements
 pub mod Texts
-pub mod Comparisons

@@ -1,6 +1,6 @@
--- A number of the stream as a byte, a word, a cell or a double, and whether an element of a list is that. Definitions only. Assumes nothing.
-use Rattle.std.specs.Prelude.{ℕ, ◌%◌, ◌^◌, Bool, List, ℤ, pos, ◌==◌, from_bits, slice_index, slice_index_or, to_bits, Float}
-use Rattle.std.specs.Float.{binary64, nan}
+-- A number of the stream as a byte, a word, a cell or a double, the bits of these, and whether an element of a list agrees with a number. Definitions only. Assumes nothing.
+use Rattle.std.specs.Prelude.{ℕ, ◌%◌, ◌^◌, Bool, List, ℤ, ◌==◌, from_bits, slice_index_or, to_bits, Float}
+use Rattle.std.specs.Float.{binary64}
 use Rattle.std.specs.Int.{w32}
 use Rattle.std.proofs.Common.{of_z, to_z}
 
@@ -20,18 +20,14 @@ as_cell n = to_z w32 (n % 2 ^ 32)
 abbrev pub as_double : ℕ → Float
 as_double n = from_bits binary64 n
 
--- whether the element i of a list is a byte
-abbrev pub same_byte : List ℕ → ℕ → ℕ → Bool
-same_byte list i n = slice_index list i == as_byte n
+-- the bits of a cell
+abbrev pub cell_bits : ℤ → ℕ
+cell_bits z = of_z w32 z
 
--- whether it is a word
-abbrev pub same_word : List ℕ → ℕ → ℕ → Bool
-same_word list i n = slice_index list i == as_word n
+-- the bits of a double, so that the zeros differ; those of every NaN are the same
+abbrev pub double_bits : Float → ℕ
+double_bits x = to_bits binary64 x
 
--- by their bits
-abbrev pub same_cell : List ℤ → ℕ → ℕ → Bool
-same_cell list i n = of_z w32 (slice_index_or list i (pos 0)) == of_z w32 (as_cell n)
-
--- by their bits, so that the zeros differ
-abbrev pub same_double : List Float → ℕ → ℕ → Bool
-same_double list i n = to_bits binary64 (slice_index_or list i nan) == to_bits binary64 (as_double n)
+-- whether the element i of a list has the bits of the one that a number stands for
+abbrev pub same_at : {A : Type 0} → (ℕ → A) → (A → ℕ) → List A → ℕ → ℕ → Bool
+same_at read bits list i n = bits (slice_index_or list i (read 0)) == bits (read n)

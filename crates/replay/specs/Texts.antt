@@ -1,31 +1,37 @@
 -- The numbers that stand in a text, in lower-case hex. Definitions only. Assumes nothing.
-use Rattle.std.specs.Prelude.{ℕ, zero, suc, ◌+◌, ◌-◌, ◌*◌, ◌%◌, ◌^◌, true, false, cond, ◌&&◌, List, length, nat_le, nat_lt, slice_index, slice_set}
-use Rattle.replay.specs.declared.stream.Reading.{Reading}
+use Rattle.std.specs.Prelude.{ℕ, ◌+◌, ◌-◌, ◌*◌, ◌%◌, ◌^◌, cond, ◌&&◌, List, [], ◌∷◌, ◌++◌, nat_le, Some, None, unwrap_or}
+use Rattle.std.specs.declared.option.Option.{Option}
+use Rattle.replay.specs.declared.text.Parsing.{Parsing}
 
--- the value of a hex digit in lower case, 16 for any other byte
-unfoldable pub digit_of : ℕ → ℕ
-digit_of c = cond (nat_le 48 c && nat_le c 57) (c - 48) (cond (nat_le 97 c && nat_le c 102) (c - 87) 16)
+-- the value of a hex digit in lower case
+abbrev pub digit_of : ℕ → Option ℕ
+digit_of c = cond (nat_le 48 c && nat_le c 57) (Some (c - 48)) (cond (nat_le 97 c && nat_le c 102) (Some (c - 87)) None)
 
--- the list that the numbers are put over from its front on, and how far they are read
-pub record Parsing : Type 0 where
-  pub list : List ℕ
-  pub reading : Reading
+-- the numbers that are read, and the one that is being read
+pub record Seen : Type 0 where
+  pub numbers : List ℕ
+  pub value : Option ℕ
+
+abbrev pub seen : Parsing → Seen
+seen p = record { numbers = p.numbers.items; value = p.value }
 
 -- one digit more of the number that is being read: what is beyond 64 bits is dropped
-unfoldable pub longer : Reading → ℕ → Reading
-longer r d = record { count = r.count; value = (r.value * 16 + d) % 2 ^ 64; begun = true }
+abbrev pub longer : Option ℕ → ℕ → ℕ
+longer value d = (unwrap_or value 0 * 16 + d) % 2 ^ 64
 
--- one byte more: a digit, or the end of a number, which is put into the list if there is room for it
-unfoldable pub one_byte : Parsing → ℕ → Parsing
-one_byte p c =
-    let d = digit_of c in
-    let r = p.reading in
-    cond (nat_lt d 16) (record { list = p.list; reading = longer r d })
-    (cond (r.begun && nat_lt r.count (length p.list))
-    (record { list = slice_set p.list r.count r.value; reading = record { count = r.count + 1; value = 0; begun = false } })
-    p)
+-- a number ends
+abbrev pub ended : Seen → Seen
+ended p = elim p.value [ None ↦ p | Some n ↦ record { numbers = p.numbers ++ n ∷ []; value = None } ]
 
--- the first n bytes of a text: a number at their end is not put, since it may go on
-unfoldable pub first_bytes : List ℕ → List ℕ → ℕ → Parsing
-first_bytes list text zero = record { list = list; reading = record { count = 0; value = 0; begun = false } }
-first_bytes list text (suc n) = one_byte (first_bytes list text n) (slice_index text n)
+-- one byte more: a digit, or the end of a number
+abbrev pub one_byte : Seen → ℕ → Seen
+one_byte p c = elim (digit_of c) [ None ↦ ended p | Some d ↦ record p { value = Some (longer p.value d) } ]
+
+-- the bytes of a text, one after the other
+unfoldable pub all_bytes : Seen → List ℕ → Seen
+all_bytes p [] = p
+all_bytes p (c ∷ text) = all_bytes (one_byte p c) text
+
+-- the numbers of a text: one at its end is left out, since it may go on
+unfoldable pub numbers_in : List ℕ → List ℕ
+numbers_in text = (all_bytes (record { numbers = []; value = None }) text).numbers

@@ -1,71 +1,75 @@
-// A number of the stream as a byte, a word, a cell or a double.
-ghost use Rattle.std.specs.Prelude.{◌≡◌, ◌/◌, ◌%◌, ◌^◌, to_bits};
+// What an element of a list is: a byte, a word, a cell or a double.
+ghost use Rattle.std.specs.Prelude.{◌≡◌, ℕ, ◌%◌, ◌^◌, to_bits};
 ghost use Rattle.std.specs.Float.{binary64};
-ghost use Rattle.replay.specs.Kinds.{as_byte, as_word, as_cell, as_double};
+ghost use Rattle.replay.specs.Kinds.{as_byte, as_word, as_cell, as_double, cell_bits, double_bits};
 
-// 2 ^ 31, 2 ^ 32, 2 ^ 52 and 2 ^ 63
-const HALF: u64 = 0x8000_0000;
+use std::num::{f64_from_bits_with_nan, f64_to_bits_with_nan};
 
-const WORDS: u64 = 0x1_0000_0000;
+// Which element a number of the stream stands for, and the number that is an element's bits: elements with the same bits agree.
+pub trait Kind: Copy {
+    ghost read: { ℕ → Self };
 
-const UNIT: u64 = 0x10_0000_0000_0000;
+    ghost bits: { Self → ℕ };
 
-const SIGN: u64 = 0x8000_0000_0000_0000;
+    fn from_number(n: u64) -> Self
+        ensures { result ≡ read n };
 
-// The bits that stand for every NaN.
-const NAN: u64 = 0x7ff8_0000_0000_0000;
-
-pub fn byte(n: u64) -> u8
-    ensures { result ≡ as_byte n }
-{
-    (n % 256) as u8
+    fn to_number(self) -> u64
+        ensures { result ≡ bits self };
 }
 
-pub fn word(n: u64) -> u32
-    ensures { result ≡ as_word n }
-{
-    (n % WORDS) as u32
-}
+impl Kind for u8 {
+    ghost read = { as_byte };
 
-// The signed number that 32 bits are in two's complement.
-pub fn cell(n: u64) -> i32
-    ensures { result ≡ as_cell n }
-{
-    let bits = n % WORDS;
-    if bits < HALF {
-        bits as i32
-    } else {
-        !((WORDS - 1 - bits) as i32)
+    ghost bits = { λ x. x };
+
+    fn from_number(n: u64) -> u8 {
+        (n % (1 << 8)) as u8
+    }
+
+    fn to_number(self) -> u64 {
+        u64::from(self)
     }
 }
 
-// The double of bits whose exponent is the highest one: infinite, or NaN.
-fn special(bits: u64) -> f64
-    requires { bits % 2 ^ 63 / 2 ^ 52 ≡ 2047 }
-    ensures { result ≡ as_double bits }
-{
-    if bits % UNIT != 0 {
-        return 0.0 / 0.0;
+impl Kind for u32 {
+    ghost read = { as_word };
+
+    ghost bits = { λ x. x };
+
+    fn from_number(n: u64) -> u32 {
+        (n % (1 << 32)) as u32
     }
-    if bits < SIGN { 1.0 / 0.0 } else { -1.0 / 0.0 }
+
+    fn to_number(self) -> u64 {
+        u64::from(self)
+    }
 }
 
-// The double that has these bits.
-pub fn double(bits: u64) -> f64
-    ensures { result ≡ as_double bits }
-{
-    if bits % SIGN / UNIT == 2047 {
-        return special(bits);
+impl Kind for i32 {
+    ghost read = { as_cell };
+
+    ghost bits = { cell_bits };
+
+    fn from_number(n: u64) -> i32 {
+        u32::from_number(n).cast_signed()
     }
-    f64::from_bits(bits)
+
+    fn to_number(self) -> u64 {
+        u64::from(self.cast_unsigned())
+    }
 }
 
-// The bits of a double.
-pub fn bits_of(x: f64) -> u64
-    ensures { result ≡ to_bits binary64 x }
-{
-    if x != x {
-        return NAN;
+impl Kind for f64 {
+    ghost read = { as_double };
+
+    ghost bits = { double_bits };
+
+    fn from_number(n: u64) -> f64 {
+        f64_from_bits_with_nan(n)
     }
-    f64::to_bits(x)
+
+    fn to_number(self) -> u64 {
+        f64_to_bits_with_nan(self)
+    }
 }

@@ -5,11 +5,13 @@
 pub mod comparison;
 pub mod kinds;
 pub mod lists;
-pub mod stream;
+pub mod numbers;
+pub mod report;
+pub mod text;
 
-pub use comparison::{
-    CaseReport, Comparison, TotalReport, answered, case_end, report_case, report_total,
-};
-pub use kinds::{byte, cell, double, word};
-pub use lists::{lend_bytes, lend_cells, lend_doubles, lend_words};
-pub use stream::{Loaded, Stored, TEXT, number, past, read};
+pub use comparison::{Cases, Comparison};
+pub use kinds::Kind;
+pub use lists::Stored;
+pub use numbers::Numbers;
+pub use report::{Total, report_case, report_total};
+pub use text::read;

@@ -1,105 +1,88 @@
-// Lists of bytes, words, cells and doubles as the numbers give them, and whether they hold what is stored of them after a call.
+// Lists as the numbers give them, and whether they hold what is stored of them after a call.
 ghost use Rattle.std.specs.Prelude.{◌≡◌, length};
-ghost use Rattle.replay.specs.Kinds.{as_byte, as_word, as_cell, as_double, same_byte, same_word, same_cell, same_double};
-ghost use Rattle.replay.specs.Lists.{stored_list, agrees};
+ghost use Rattle.replay.specs.Kinds.{same_at};
+ghost use Rattle.replay.specs.Lists.{end_of, given_element, element, element_after, stored_list, agrees};
 
-use crate::kinds::{bits_of, byte, cell, double, word};
-use crate::stream::{After, Stored, least};
+use crate::kinds::Kind;
+use crate::numbers::Numbers;
 
-// The list of bytes, in the first part of a buffer, or in all of one that is too short.
-pub fn lend_bytes<'a>(numbers: &[u64], s: Stored, buffer: &'a mut [u8]) -> &'a mut [u8]
-    ensures { result.now ≡ stored_list as_byte numbers.now s (length buffer.old) }
-{
-    let n = least(s.len, buffer.len());
-    let mut i = 0;
-    while i < n {
-        buffer[i] = byte(s.element(numbers, i));
-        i += 1;
-    }
-    &mut buffer[..n]
+// Every element past those that are given has all its bytes 5a.
+const SPARE: u64 = 0x5a5a_5a5a_5a5a_5a5a;
+
+// The first elements of a list: how many are given, and the place of the first.
+#[derive(Clone, Copy, Debug)]
+pub struct Given<'a> {
+    pub count: usize,
+    pub from: Numbers<'a>,
 }
 
-pub fn lend_words<'a>(numbers: &[u64], s: Stored, buffer: &'a mut [u32]) -> &'a mut [u32]
-    ensures { result.now ≡ stored_list as_word numbers.now s (length buffer.old) }
-{
-    let n = least(s.len, buffer.len());
-    let mut i = 0;
-    while i < n {
-        buffer[i] = word(s.element(numbers, i));
-        i += 1;
+impl<'a> Given<'a> {
+    // The element i, if so many are given.
+    pub fn element(self, i: usize) -> Option<u64>
+        ensures { result ≡ given_element self.entry i }
+    {
+        if i < self.count {
+            Some(self.from.past(i).get())
+        } else {
+            None
+        }
     }
-    &mut buffer[..n]
 }
 
-pub fn lend_cells<'a>(numbers: &[u64], s: Stored, buffer: &'a mut [i32]) -> &'a mut [i32]
-    ensures { result.now ≡ stored_list as_cell numbers.now s (length buffer.old) }
-{
-    let n = least(s.len, buffer.len());
-    let mut i = 0;
-    while i < n {
-        buffer[i] = cell(s.element(numbers, i));
-        i += 1;
-    }
-    &mut buffer[..n]
+// A list: its length, and the elements that are given.
+#[derive(Clone, Copy, Debug)]
+pub struct Stored<'a> {
+    pub len: usize,
+    pub given: Given<'a>,
 }
 
-pub fn lend_doubles<'a>(numbers: &[u64], s: Stored, buffer: &'a mut [f64]) -> &'a mut [f64]
-    ensures { result.now ≡ stored_list as_double numbers.now s (length buffer.old) }
-{
-    let n = least(s.len, buffer.len());
-    let mut i = 0;
-    while i < n {
-        buffer[i] = double(s.element(numbers, i));
-        i += 1;
+impl<'a> Stored<'a> {
+    // The element i: one that is given, or 5a in every byte.
+    pub fn element(self, i: usize) -> u64
+        ensures { result ≡ element self.entry i }
+    {
+        self.given.element(i).unwrap_or(SPARE)
     }
-    &mut buffer[..n]
+
+    // The list, in the first part of a buffer, or in all of one that is too short.
+    pub fn lend<'b, K: Kind>(self, buffer: &'b mut [K]) -> &'b mut [K]
+        ensures { result.now ≡ stored_list K.read self.entry (length buffer.old) }
+    {
+        let n = usize::min(self.len, buffer.len());
+        let list = &mut buffer[..n];
+        for (i, x) in list.iter_mut().enumerate() {
+            *x = K::from_number(self.element(i));
+        }
+        list
+    }
 }
 
-// Whether a list of bytes is the one after the call.
-pub fn same_bytes(numbers: &[u64], a: After, got: &[u8]) -> bool
-    ensures { result ≡ agrees numbers.now a (length got.now) (same_byte got.now) }
-{
-    let mut same = got.len() == a.before.len;
-    let mut i = 0;
-    while i < got.len() {
-        same = same & (got[i] == byte(a.element(numbers, i)));
-        i += 1;
-    }
-    same
+// A list after a call: the elements that are given, and the list that it was before, whose elements all others are.
+#[derive(Clone, Copy, Debug)]
+pub struct After<'a> {
+    pub before: Stored<'a>,
+    pub given: Given<'a>,
 }
 
-pub fn same_words(numbers: &[u64], a: After, got: &[u32]) -> bool
-    ensures { result ≡ agrees numbers.now a (length got.now) (same_word got.now) }
-{
-    let mut same = got.len() == a.before.len;
-    let mut i = 0;
-    while i < got.len() {
-        same = same & (got[i] == word(a.element(numbers, i)));
-        i += 1;
+impl<'a> After<'a> {
+    // The element i: one that is given, or the one before.
+    pub fn element(self, i: usize) -> u64
+        ensures { result ≡ element_after self.entry i }
+    {
+        match self.given.element(i) {
+            Some(n) => n,
+            None => self.before.element(i),
+        }
     }
-    same
-}
 
-pub fn same_cells(numbers: &[u64], a: After, got: &[i32]) -> bool
-    ensures { result ≡ agrees numbers.now a (length got.now) (same_cell got.now) }
-{
-    let mut same = got.len() == a.before.len;
-    let mut i = 0;
-    while i < got.len() {
-        same = same & (got[i] == cell(a.element(numbers, i)));
-        i += 1;
+    // Whether a list is this one.
+    pub fn agrees<K: Kind>(self, list: &[K]) -> bool
+        ensures { result ≡ agrees self.entry (length list.now) (same_at K.read K.bits list.now) }
+    {
+        let mut same = list.len() == self.before.len;
+        for (i, x) in list.iter().enumerate() {
+            same &= x.to_number() == K::from_number(self.element(i)).to_number();
+        }
+        same
     }
-    same
-}
-
-pub fn same_doubles(numbers: &[u64], a: After, got: &[f64]) -> bool
-    ensures { result ≡ agrees numbers.now a (length got.now) (same_double got.now) }
-{
-    let mut same = got.len() == a.before.len;
-    let mut i = 0;
-    while i < got.len() {
-        same = same & (bits_of(got[i]) == bits_of(double(a.element(numbers, i))));
-        i += 1;
-    }
-    same
 }

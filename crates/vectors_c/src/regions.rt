@@ -1,71 +1,64 @@
 // Cases of the entries that label regions, and of dilation.
-use replay::{
-    Comparison, Stored, answered, lend_bytes, lend_cells, lend_words, number, past, word,
-};
+use crate::lent::Lent;
+use replay::{Comparison, Numbers};
 use silk_c::{silk_binary_dilation8, silk_label_regions, silk_label4};
+use std::alloc::{AllocError, Global};
 
-// Room for the longest lists that are stored. A longer list shows as a difference.
-const LIST: usize = 1024;
-
-pub fn label_regions(numbers: &[u64], at: usize) -> Comparison {
-    let mut first = [0i32; LIST];
-    let mut second = [0u32; LIST];
-    let mut third = [0u32; LIST];
-    let mut fourth = [0u32; LIST];
-    let c = Stored::at(numbers, at);
-    let h = number(numbers, c.end()) as usize;
-    let w = number(numbers, past(c.end(), 1)) as usize;
-    let l = Stored::at(numbers, past(c.end(), 2));
-    let k = Stored::work(numbers, l.end());
-    let f = Stored::at(numbers, k.end());
-    let cells = lend_cells(numbers, c, &mut first);
-    let labels = lend_words(numbers, l, &mut second);
-    let work = lend_words(numbers, k, &mut third);
-    let facts = lend_words(numbers, f, &mut fourth);
-    let answer = silk_label_regions(cells, h, w, labels, work, facts);
-    answered(numbers, f.end(), answer)
-        .cells(numbers, c, cells)
-        .words(numbers, l, labels)
-        .words(numbers, f, facts)
+pub fn label_regions(alloc: Global, mut case: Numbers<'_>) -> Result<bool, AllocError> {
+    let cells = Lent::<i32>::list(alloc, &mut case)?;
+    let h = case.size();
+    let w = case.size();
+    let mut labels = Lent::<u32>::list(alloc, &mut case)?;
+    let mut work = Lent::<u32>::work(alloc, &mut case)?;
+    let mut facts = Lent::<u32>::list(alloc, &mut case)?;
+    let answer = silk_label_regions(
+        &cells.elements,
+        h,
+        w,
+        &mut labels.elements,
+        &mut work.elements,
+        &mut facts.elements,
+    );
+    let found = cells.compared(Comparison::answered(case, answer));
+    let found = labels.compared(found);
+    Ok(facts.compared(found).holds())
 }
 
-pub fn label4(numbers: &[u64], at: usize) -> Comparison {
-    let mut first = [0u8; LIST];
-    let mut second = [0u32; LIST];
-    let mut third = [0u32; LIST];
-    let mut fourth = [0u32; LIST];
-    let m = Stored::at(numbers, at);
-    let h = number(numbers, m.end()) as usize;
-    let w = number(numbers, past(m.end(), 1)) as usize;
-    let l = Stored::at(numbers, past(m.end(), 2));
-    let k = Stored::work(numbers, l.end());
-    let f = Stored::at(numbers, k.end());
-    let mask = lend_bytes(numbers, m, &mut first);
-    let labels = lend_words(numbers, l, &mut second);
-    let work = lend_words(numbers, k, &mut third);
-    let facts = lend_words(numbers, f, &mut fourth);
-    let answer = silk_label4(mask, h, w, labels, work, facts);
-    answered(numbers, f.end(), answer)
-        .bytes(numbers, m, mask)
-        .words(numbers, l, labels)
-        .words(numbers, f, facts)
+pub fn label4(alloc: Global, mut case: Numbers<'_>) -> Result<bool, AllocError> {
+    let mask = Lent::<u8>::list(alloc, &mut case)?;
+    let h = case.size();
+    let w = case.size();
+    let mut labels = Lent::<u32>::list(alloc, &mut case)?;
+    let mut work = Lent::<u32>::work(alloc, &mut case)?;
+    let mut facts = Lent::<u32>::list(alloc, &mut case)?;
+    let answer = silk_label4(
+        &mask.elements,
+        h,
+        w,
+        &mut labels.elements,
+        &mut work.elements,
+        &mut facts.elements,
+    );
+    let found = mask.compared(Comparison::answered(case, answer));
+    let found = labels.compared(found);
+    Ok(facts.compared(found).holds())
 }
 
-pub fn binary_dilation8(numbers: &[u64], at: usize) -> Comparison {
-    let mut first = [0u8; LIST];
-    let mut second = [0u8; LIST];
-    let mut third = [0u32; LIST];
-    let m = Stored::at(numbers, at);
-    let h = number(numbers, m.end()) as usize;
-    let w = number(numbers, past(m.end(), 1)) as usize;
-    let iterations = word(number(numbers, past(m.end(), 2)));
-    let o = Stored::at(numbers, past(m.end(), 3));
-    let k = Stored::work(numbers, o.end());
-    let mask = lend_bytes(numbers, m, &mut first);
-    let out = lend_bytes(numbers, o, &mut second);
-    let work = lend_words(numbers, k, &mut third);
-    let answer = silk_binary_dilation8(mask, h, w, iterations, out, work);
-    answered(numbers, k.end(), answer)
-        .bytes(numbers, m, mask)
-        .bytes(numbers, o, out)
+pub fn binary_dilation8(alloc: Global, mut case: Numbers<'_>) -> Result<bool, AllocError> {
+    let mask = Lent::<u8>::list(alloc, &mut case)?;
+    let h = case.size();
+    let w = case.size();
+    let iterations = case.element::<u32>();
+    let mut out = Lent::<u8>::list(alloc, &mut case)?;
+    let mut work = Lent::<u32>::work(alloc, &mut case)?;
+    let answer = silk_binary_dilation8(
+        &mask.elements,
+        h,
+        w,
+        iterations,
+        &mut out.elements,
+        &mut work.elements,
+    );
+    let found = mask.compared(Comparison::answered(case, answer));
+    Ok(out.compared(found).holds())
 }
