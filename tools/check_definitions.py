@@ -68,7 +68,7 @@ def boolean(b):
 
 
 def entry(index):
-    return "Nothing" if index is None else f"(Entry {index})"
+    return "None" if index is None else f"(Some {index})"
 
 
 def numbers(*xs):
@@ -129,7 +129,7 @@ def rows(n, rng):
                        outcome(c, sum(p, []) + [0.0] * (3 * (k + 1 - len(p))), index, hh, ww, len(p), clipped))
             else:
                 if rng.random() < 0.2:
-                    how, text = 0, "None"
+                    how, text = 0, "Unlined"
                 beta, orphans, jag = rng.choice([0.0, 1.0, 1.5]), rng.random() < 0.7, rng.random() < 0.6
                 tileset, saturated, margin = rng.random() < 0.2, rng.random() < 0.3, rng.choice([0, 0, 0, 1, -1])
                 lent, lab = list(cells) + [7] * (2 * h + 2 * w + 4), sum(pal, []) + [0.0] * (768 - 3 * k)
@@ -153,28 +153,26 @@ def main():
 use Rattle.std.proofs.Common.{◌≡◌, refl}
 use lib.Ieee as Ieee
 use lib.Count
-use Rattle.std.specs.Prelude.{ℕ, ◌*◌, Bool, true, false, cond, List, [], ◌∷◌, ℤ, pos, negsuc, length}
+use Rattle.std.specs.Prelude.{ℕ, ◌*◌, Bool, true, false, cond, List, [], ◌∷◌, ℤ, pos, negsuc, length, Option, None, Some}
 use mathlib.Core.List.{map}
 use Rattle.std.specs.Float.{binary64}
 use lib.Ieee.{of_bits, to_bits}
 use Rattle.rules.specs.declared.Outline.{Outline as How}
-use Rattle.rules.specs.declared.Outline.TheVariants.{None, Auto, Rgb}
-use Rattle.rules.specs.declared.LineIndex.{LineIndex}
-use Rattle.rules.specs.declared.LineIndex.TheVariants.{Nothing, Entry}
+use Rattle.rules.specs.declared.Outline.TheVariants.{None as Unlined, Auto, Rgb}
 use Rattle.rules.specs.declared.Limits.{Limits}
 use Rattle.rules.specs.declared.PostConfig.{PostConfig}
 
 record Shown : Type 0 where
   cells : List ℤ
   lab : List ℕ
-  index : LineIndex
+  index : Option ℕ
   facts : List ℕ
 
 unfoldable cleaned : ℕ → Palette.Palette → Limits → Sheet.Sheet → Shown
-cleaned k p l s = let t = Run.clean_sheet k p l s in record { cells = t.sheet.cells; lab = []; index = Nothing; facts = t.passes ∷ [] }
+cleaned k p l s = let t = Run.clean_sheet k p l s in record { cells = t.sheet.cells; lab = []; index = None; facts = t.passes ∷ [] }
 
 unfoldable trimmed : Sheet.Sheet → Shown
-trimmed s = record { cells = (Corners.trim s).cells; lab = []; index = Nothing; facts = [] }
+trimmed s = record { cells = (Corners.trim s).cells; lab = []; index = None; facts = [] }
 
 unfoldable lined : Bool → Bool → How → Sheet.Sheet → Palette.Palette → Shown
 lined pad fixed how s p =
