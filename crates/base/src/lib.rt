@@ -4,9 +4,6 @@
 ghost use Rattle.std.specs.Prelude.{◌≡◌};
 ghost use Rattle.base.specs.Numbers.{number};
 
-use std::error::Error;
-use std::fmt;
-
 // Why a call is refused, in the order of the table of refusals.
 #[derive(Clone, Copy, Debug, PartialEq, Eq)]
 pub enum Refusal {
@@ -40,11 +37,3 @@ impl Refusal {
         self as u8 + 1
     }
 }
-
-impl fmt::Display for Refusal {
-    fn fmt<W: fmt::Write>(&self, f: &mut fmt::Formatter<W>) -> fmt::Result {
-        write!(f, "refused={}", self.number())
-    }
-}
-
-impl Error for Refusal {}

@@ -1,1 +1,2 @@
 pub mod Lab
+pub mod Least

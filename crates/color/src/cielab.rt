@@ -1,6 +1,6 @@
 // CIELAB: the distance of two colours, and the ways to sRGB and back, formula for formula in the order of scikit-image's `rgb2lab` and `lab2rgb`.
-ghost use Rattle.std.specs.Prelude.{◌≡◌, ◌+◌, ◌*◌, ◌<◌, length};
-ghost use Rattle.std.specs.Float.Ieee.{lt};
+ghost use Rattle.std.specs.Prelude.{◌≡◌, ◌+◌, ◌*◌, ◌<◌, ◌&&◌, length};
+ghost use Rattle.std.specs.Float.Ieee.{lt, le};
 ghost use Rattle.color.specs.Lab.{entry, within, dist2, distance, dot, mat_vec, lab_f, lab_f_inv, lab_of_xyz, xyz_of_lab, rgb8_to_lab, lab_to_rgb8};
 
 use crate::{Lab, Rgb8};
@@ -36,11 +36,18 @@ const SHIFT: f64 = 16.0 / 116.0;
 
 const EDGE_INV: f64 = 0.2068966;
 
+// Whether x is from lo to hi, and no NaN.
+pub fn between(lo: f64, hi: f64, x: f64) -> bool
+    ensures { result ≡ (le lo x && le x hi) }
+{
+    lo <= x && x <= hi
+}
+
 // Whether a part of a colour is in range: no NaN, and not beyond 1024 either way.
 pub fn within(x: f64) -> bool
     ensures { result ≡ within x }
 {
-    -1024.0 <= x && x <= 1024.0
+    between(-1024.0, 1024.0, x)
 }
 
 // The colour i of a list with three doubles for each colour.

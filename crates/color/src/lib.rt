@@ -2,6 +2,7 @@
 #![tactic(auto)]
 
 pub mod cielab;
+pub mod least;
 
 // A colour in CIELAB.
 #[derive(Clone, Copy, Debug, PartialEq)]

@@ -1,5 +1,6 @@
 pub mod Sheet
 pub mod Palette
+pub mod InUse
 pub mod Grid
 pub mod Regions
 pub mod Pass
