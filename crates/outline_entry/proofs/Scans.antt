@@ -1,29 +1,32 @@
 -- Scans of the entries of a palette: for the least value, and for the first entry that passes a test. Assumes nothing.
 use Prim.Native.Nat.{ℕ, zero, suc, ◌+◌, ◌-◌, ◌≤◌, ◌<◌}
-use mathlib.Core.Path.{◌≡◌, refl, ap, ◌∙◌, subst}
+use mathlib.Core.Path.{◌≡◌, refl, sym, ap, ◌∙◌, subst}
 use mathlib.Core.Bool.{Bool, true, false, cond}
-use mathlib.Core.List.{List}
+use mathlib.Core.List.{List, [], ◌∷◌, ◌++◌}
 use Rattle.std.specs.Prelude.{Option, None, Some}
-use native.Mathlib.Nat.{lt_of_lt_of_le, zero-add, suc-add}
-use native.Mathlib.Numerals.{add-one}
+use native.Mathlib.Nat.{lt_of_lt_of_le, le_step, lt-suc_self, add-zero, zero-add, suc-add}
+use Rattle.std.specs.List.{range_with_len, fold}
+use Rattle.std.specs.Option.{MatchOption}
+use Rattle.std.proofs.lemmas.List.Sums.{fold_push}
 use native.Mathlib.Omega.{arith}
 use lib.Dec.{lit<}
 use lib.Ieee.{Float, lt}
 use Rattle.base.proofs.Counting.{case}
 use Rattle.color.specs.declared.Lab.{Lab}
 use Rattle.color.specs.declared.Rgb8.{Rgb8}
+use Rattle.color.specs.declared.least.Least.{Least}
 use Rattle.color.specs.Lab.{distance, lab_to_rgb8}
+use Rattle.color.specs.Least.{lowered}
 use Rattle.rules.specs.Palette.{Palette, palette_of, colour, first_least, first_where}
 use Rattle.rules.specs.Outline.{darkest, nearest_entry, same_rgb8}
 use Rattle.rules.proofs.Least.{least_some}
-use Rattle.outline_entry.specs.declared.Met.{Met}
-use Rattle.outline_entry.specs.Line.{lowered, placed}
+use Rattle.outline_entry.specs.Line.{placed}
 
 -- a place with its value
-abbrev pub met : (ℕ → Float) → ℕ → Met
+abbrev pub met : (ℕ → Float) → ℕ → Least
 met v i = record { at = i; value = v i }
 
-unfoldable pub held : (ℕ → Float) → Option ℕ → Option Met
+unfoldable pub held : (ℕ → Float) → Option ℕ → Option Least
 held v None = None
 held v (Some b) = Some (met v b)
 
@@ -47,15 +50,22 @@ light l k i = (colour (palette_of l k) i).l
 abbrev pub far : List Float → ℕ → Lab → ℕ → Float
 far l k c i = distance (colour (palette_of l k) i) c
 
-module _ (may : ℕ → Bool) (v : ℕ → Float) where
-  pub scan_none : None ≡ held v (first_least may v 0)
-  unfolding held first_least
-  scan_none = refl
+-- one more place of a range
+range_push : (a n : ℕ) → range_with_len a (suc n) ≡ range_with_len a n ++ (a + n) ∷ []
+range_push a zero = ap (λ (x : ℕ). x ∷ []) (sym (add-zero a))
+range_push a (suc n) = ap (λ (l : List ℕ). a ∷ l) (range_push (a + 1) n ∙ ap (λ (x : ℕ). range_with_len (a + 1) n ++ x ∷ []) (omega arith))
 
-  -- one more entry that may be chosen
-  pub scan_more : (i : ℕ) {best : Option Met} → may i ≡ true → best ≡ held v (first_least may v i) → Some (lowered best (met v i)) ≡ held v (first_least may v (i + 1))
-  unfolding first_least
-  scan_more i m e = rw (add-one, m, e) (one_more v i (first_least may v i))
+-- a fold over the entries below k that keeps the least
+pub scanned : (v : ℕ → Float) (k : ℕ) → fold (λ (best : Option Least) (i : ℕ). Some (lowered best (met v i))) None (range_with_len 0 k) ≡ held v (first_least all v k)
+unfolding held first_least
+scanned v zero = refl
+scanned v (suc k) =
+    let next : Option Least → ℕ → Option Least = (λ best i. Some (lowered best (met v i))) in
+    ap (fold next None) (range_push 0 k)
+    ∙ fold_push next None (range_with_len 0 k) (0 + k)
+    ∙ ap (next (fold next None (range_with_len 0 k))) (zero-add k)
+    ∙ ap (λ (o : Option Least). next o k) (scanned v k)
+    ∙ one_more v k (first_least all v k)
 
 -- the entry that a scan ends with, 0 where there is none
 pub placed-held : (v : ℕ → Float) (o : Option ℕ) → placed (held v o) ≡ elim o [ None ↦ 0 | Some i ↦ i ]
@@ -82,16 +92,13 @@ abbrev pub same : List Float → ℕ → Rgb8 → ℕ → Bool
 same l k rgb i = same_rgb8 (lab_to_rgb8 (colour (palette_of l k) i)) rgb
 
 module _ (t : ℕ → Bool) where
-  pub where_none : first_where t 0 ≡ None
+  where_none : first_where t 0 ≡ None
   unfolding first_where
   where_none = refl
 
   next : (i : ℕ) (o : Option ℕ) → first_where t i ≡ o → first_where t (suc i) ≡ elim o [ None ↦ cond (t i) (Some i) None | Some b ↦ Some b ]
   unfolding first_where
   next i o e = ap (λ (r : Option ℕ). elim r [ None ↦ cond (t i) (Some i) None | Some b ↦ Some b ]) e
-
-  pub where_more : (i : ℕ) → first_where t i ≡ None → t i ≡ false → first_where t (i + 1) ≡ None
-  where_more i e z = rw add-one (next i None e ∙ ap (λ (b : Bool). cond b (Some i) None) z)
 
   stays : (b j d : ℕ) → first_where t j ≡ Some b → first_where t (d + j) ≡ Some b
   stays b j zero e = rw zero-add e
@@ -102,6 +109,16 @@ module _ (t : ℕ → Bool) where
       let a : first_where t (suc i) ≡ Some i = next i None e ∙ ap (λ (b : Bool). cond b (Some i) None) y in
       let q : k - suc i + suc i ≡ k = omega arith in
       subst (λ (n : ℕ). first_where t n ≡ Some i) q (stays i (suc i) (k - suc i) a)
+
+  -- no entry below k passes
+  none_below : (k : ℕ) → ((j : ℕ) → j < k → t j ≡ false) → first_where t k ≡ None
+  none_below zero f = where_none
+  none_below (suc k) f = next k None (none_below k (λ j h. f j (le_step h))) ∙ ap (λ (b : Bool). cond b (Some k) None) (f k (lt-suc_self k))
+
+  -- what a search from the front finds is the first
+  pub found : (k : ℕ) (o : Option ℕ) → MatchOption o ((j : ℕ) → 0 ≤ j → j < k → t j ≡ false) (λ i. (0 ≤ i) × (i < k) × (t i ≡ true) × ((j : ℕ) → 0 ≤ j → j < i → t j ≡ false)) → o ≡ first_where t k
+  found k None f = sym (none_below k (λ j h. f j (omega arith) h))
+  found k (Some i) w = sym (where_hit i k w.1 (none_below i (λ j h. w.3 j (omega arith) h)) w.2)
 
   pub where_below : (k b : ℕ) → first_where t k ≡ Some b → b < k
   unfolding first_where

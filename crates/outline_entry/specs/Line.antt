@@ -1,18 +1,12 @@
 -- The scans of a palette for the outline's entry, and what the choice of one leaves. Definitions only. Assumes nothing.
-use Rattle.std.specs.Prelude.{ℕ, cond, ◌≡◌, List, Float, Option, None, Some}
-use Rattle.std.specs.Float.Ieee.{lt}
+use Rattle.std.specs.Prelude.{ℕ, ◌≡◌, List, Float, Option, None, Some}
 use Rattle.color.specs.declared.Lab.{Lab}
+use Rattle.color.specs.declared.least.Least.{Least}
 use Rattle.rules.specs.Palette.{Palette}
 use Rattle.rules.specs.Outline.{Choice, chosen_index, chosen_palette}
-use Rattle.outline_entry.specs.declared.Met.{Met}
-
--- what a scan holds after one more value: the new one if it is less
-unfoldable pub lowered : Option Met → Met → Met
-lowered None next = next
-lowered (Some least) next = cond (lt next.value least.value) next least
 
 -- where the least value stands, 0 where there is none
-unfoldable pub placed : Option Met → ℕ
+unfoldable pub placed : Option Least → ℕ
 placed None = 0
 placed (Some least) = least.at
 

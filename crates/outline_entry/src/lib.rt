@@ -3,39 +3,19 @@
 
 ghost use Rattle.std.specs.Prelude.{◌≡◌, true, ◌+◌, ◌*◌, ◌<◌, ◌≤◌, length};
 ghost use Rattle.color.specs.Lab.{lab_to_rgb8};
-ghost use Rattle.rules.specs.Palette.{palette_of, colour, recoloured, first_where};
+ghost use Rattle.rules.specs.Palette.{palette_of, colour, first_where};
+ghost use Rattle.rules.specs.InUse.{in_use};
 ghost use Rattle.rules.specs.Outline.{darkest, darkened, line_colour, nearest_entry, same_rgb8, choice};
-ghost use Rattle.outline_entry.specs.Line.{lowered, placed, Chose};
+ghost use Rattle.outline_entry.specs.Line.{placed, Chose};
 
 use color::cielab::{distance, entry, lab_to_rgb8_one, rgb8_to_lab_one};
+use color::least::{Least, lower};
 use color::{Lab, Rgb8};
-use rules::Outline;
-
-// A value that a scan has met, and where it stands.
-#[derive(Clone, Copy, Debug, PartialEq)]
-pub struct Met {
-    pub at: usize,
-    pub value: f64,
-}
-
-// The least value so far, with one more: that is taken if it is less.
-#[tactic(auto, unfolding(crate::specs::Line::lowered))]
-fn lower(best: Option<Met>, next: Met) -> Met
-    ensures { result ≡ lowered best next }
-{
-    let Some(least) = best else {
-        return next;
-    };
-    if next.value < least.value {
-        next
-    } else {
-        least
-    }
-}
+use rules::{Entries, Outline, recolour};
 
 // Where the least value stands, 0 where there is none.
 #[tactic(auto, unfolding(crate::specs::Line::placed))]
-fn place(best: Option<Met>) -> usize
+fn place(best: Option<Least>) -> usize
     ensures { result ≡ placed best }
 {
     match best {
@@ -45,29 +25,23 @@ fn place(best: Option<Met>) -> usize
 }
 
 // The first entry of least L.
-fn darkest(palette: &[f64], k: usize) -> usize
-    requires { (3 * k ≤ length palette.now) × (k ≤ 256) }
-    ensures { result ≡ darkest (palette_of palette.now k) }
+fn darkest(entries: Entries) -> usize
+    ensures { result ≡ darkest (in_use entries.entry) }
 {
-    let mut best = None;
-    for i in 0..k {
-        let value = palette[3 * i];
-        best = Some(lower(best, Met { at: i, value }));
-    }
-    place(best)
+    place((0..entries.k).fold(None, |best, i| {
+        let value = entries.colour(i).l;
+        Some(lower(best, Least { at: i, value }))
+    }))
 }
 
 // The nearest entry to a colour, the lowest on ties. The distances are compared, not their squares.
-fn nearest_entry(palette: &[f64], k: usize, c: Lab) -> usize
-    requires { (3 * k ≤ length palette.now) × (k ≤ 256) }
-    ensures { result ≡ nearest_entry (λ i. true) (palette_of palette.now k) c }
+fn nearest_entry(entries: Entries, c: Lab) -> usize
+    ensures { result ≡ nearest_entry (λ i. true) (in_use entries.entry) c }
 {
-    let mut best = None;
-    for i in 0..k {
-        let value = distance(entry(palette, i), c);
-        best = Some(lower(best, Met { at: i, value }));
-    }
-    place(best)
+    place((0..entries.k).fold(None, |best, i| {
+        let d = distance(entries.colour(i), c);
+        Some(lower(best, Least { at: i, value: d }))
+    }))
 }
 
 // A colour with each part times 1 - darken: on the way to black.
@@ -90,7 +64,7 @@ pub fn outline_color_lab(palette: &[f64], k: usize, outline: Outline) -> Lab
     match outline {
         Outline::None => entry(palette, 0),
         Outline::Auto(darken) => {
-            let i = darkest(palette, k);
+            let i = darkest(Entries { lab: palette, k });
             darkened(darken, entry(palette, i))
         }
         Outline::Rgb(r, g, b) => rgb8_to_lab_one(Rgb8 { r, g, b }),
@@ -98,27 +72,10 @@ pub fn outline_color_lab(palette: &[f64], k: usize, outline: Outline) -> Lab
 }
 
 // The first entry with an RGB8.
-fn first_same(palette: &[f64], k: usize, rgb: Rgb8) -> Option<usize>
-    requires { (3 * k ≤ length palette.now) × (k ≤ 256) }
-    ensures { result ≡ first_where (λ i. same_rgb8 (lab_to_rgb8 (colour (palette_of palette.now k) i)) rgb) k }
+fn first_same(entries: Entries, rgb: Rgb8) -> Option<usize>
+    ensures { result ≡ first_where (λ i. same_rgb8 (lab_to_rgb8 (colour (in_use entries.entry) i)) rgb) entries.entry.k }
 {
-    for i in 0..k {
-        if lab_to_rgb8_one(entry(palette, i)) == rgb {
-            return Some(i);
-        }
-    }
-    None
-}
-
-// Writes a colour to the entry i.
-#[tactic(auto, unfolding(rules::specs::Palette::recoloured))]
-fn recolour(palette: &mut [f64], i: usize, c: Lab)
-    requires { 3 * i + 2 < length palette.old }
-    ensures { palette.new ≡ recoloured palette.old i c }
-{
-    palette[3 * i] = c.l;
-    palette[3 * i + 1] = c.a;
-    palette[3 * i + 2] = c.b;
+    (0..entries.k).find(|i| lab_to_rgb8_one(entries.colour(*i)) == rgb)
 }
 
 // The entry that carries the outline's colour, and how many entries there are with it.
@@ -137,10 +94,10 @@ pub fn choose(palette: &mut [f64], k: usize, c: Lab, fixed: bool) -> Chosen
     ensures { Chose (palette_of palette.old k) c (choice (λ i. true) fixed (palette_of palette.old k) c) result.index result.colours palette.new }
 {
     if fixed {
-        let index = nearest_entry(palette, k, c);
+        let index = nearest_entry(Entries { lab: palette, k }, c);
         return Chosen { index, colours: k };
     }
-    if let Some(index) = first_same(palette, k, lab_to_rgb8_one(c)) {
+    if let Some(index) = first_same(Entries { lab: palette, k }, lab_to_rgb8_one(c)) {
         return Chosen { index, colours: k };
     }
     if k < ENTRIES {
@@ -150,7 +107,7 @@ pub fn choose(palette: &mut [f64], k: usize, c: Lab, fixed: bool) -> Chosen
             colours: k + 1,
         };
     }
-    let index = nearest_entry(palette, k, c);
+    let index = nearest_entry(Entries { lab: palette, k }, c);
     recolour(palette, index, c);
     Chosen { index, colours: k }
 }

@@ -1,4 +1,3 @@
 pub mod Scans
-pub mod Signs
-pub mod Thirds
+pub mod Nearness
 pub mod Rows

@@ -1,17 +1,18 @@
 -- What entries may rely on once their rows refuse nothing: rows 1 to 3, also with two lent lists, and rows 4 to 6. Assumes nothing.
 use Prim.Native.Nat.{ℕ, ◌+◌, ◌*◌, ◌≤◌, min}
-use mathlib.Core.Path.{◌≡◌, ◌∙◌}
+use mathlib.Core.Path.{◌≡◌, ap, ◌∙◌}
 use mathlib.Core.Logic.{⊎_elim}
 use mathlib.Core.Bool.{Bool, true, false, not, ◌||◌}
 use mathlib.Core.List.{List, [], ◌∷◌, ◌++◌}
-use Rattle.std.specs.Prelude.{None}
+use Rattle.std.specs.Prelude.{Option, None, Result}
 use native.Mathlib.Nat.{mul-le-mul, min-le_left, min-le_right}
 use native.Mathlib.Omega.{arith}
 use borrow.Author.Tests.{ltb-true, ltb-false, lt-ltb, eqb-true, not-false}
 use lib.Dec.{ltb, eqb}
 use lib.ListN.{length}
 use Rattle.base.specs.declared.Refusal.TheVariants.{ListTooShort, SettingOutOfRange}
-use Rattle.base.specs.Refusals.{Row, row, refusal}
+use Rattle.base.specs.declared.Refusal.{Refusal}
+use Rattle.base.specs.Refusals.{Row, row, refusal, answered}
 use Rattle.base.proofs.Counting.{same_test, either, neither, or_left, or_right, min-is}
 use Rattle.base.proofs.Refusing.{rows_none, rows_same, rows_either}
 use Rattle.rules.specs.Palette.{Palette}
@@ -64,6 +65,11 @@ unfolding grid_refusal too_short
 shorter_list h w lent out work =
     rows_same (too_large h w ∷ []) (too_short (min lent out) (h * w) ∷ cramped work (h * w) ∷ []) (too_short lent (h * w) ∷ too_short out (h * w) ∷ cramped work (h * w) ∷ [])
     (rw (short_either lent out (h * w)) (rows_either ListTooShort (ltb lent (h * w)) (ltb out (h * w)) (cramped work (h * w) ∷ [])))
+
+-- the answer by the shorter of two lists is that by both
+pub by_shorter : (h w lent out work short : ℕ) (r : Result (Unit {0}) Refusal) → r ≡ answered (refusal (sheet_rows h w (h * w) short work)) tt → short ≡ min lent out → r ≡ answered (grid_refusal h w lent out work []) tt
+by_shorter h w lent out work short r e s =
+    e ∙ ap (λ (n : ℕ). answered (refusal (sheet_rows h w (h * w) n work)) tt) s ∙ ap (λ (o : Option Refusal). answered o tt) (shorter_list h w lent out work)
 
 pub grid_room : {h w lent out work : ℕ} → grid_refusal h w lent out work [] ≡ None → Room h w (h * w) lent work × (h * w ≤ out)
 grid_room {h} {w} {lent} {out} {work} e =

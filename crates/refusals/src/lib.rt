@@ -9,12 +9,14 @@ ghost use Rattle.base.specs.Refusals.{refusal, answered};
 ghost use Rattle.rules.specs.Regions.{at};
 ghost use Rattle.rules.specs.Sheet.{needed};
 ghost use Rattle.rules.specs.Palette.{palette_of, out_of_range};
+ghost use Rattle.rules.specs.InUse.{in_use};
 ghost use Rattle.rules.specs.Rows.{too_large, bad_palette, bad_darkening, sheet_rows, palette_rows};
 ghost use Rattle.rules.specs.Masks.{grid_refusal};
 ghost use Rattle.refusals.specs.Near.{all_near};
 
 use base::Refusal;
-use rules::Outline;
+pub use color::cielab::between;
+use rules::{Entries, Outline};
 
 // The most rows that a sheet has.
 const MOST_ROWS: usize = 512;
@@ -78,34 +80,21 @@ pub fn bad_palette(palette: &[f64], k: usize) -> bool
     k > 256 || palette.len() != 768
 }
 
-// Whether x is from lo to hi, and no NaN.
-pub fn between(lo: f64, hi: f64, x: f64) -> bool
-    ensures { result ≡ (le lo x && le x hi) }
-{
-    lo <= x && x <= hi
-}
-
-// Whether every double in use is from -reach to reach: each third of them is walked at once.
-pub fn all_near(palette: &[f64], k: usize, reach: f64) -> bool
-    requires { (3 * k ≤ length palette.now) × (k ≤ 256) }
-    ensures { result ≡ all_near reach (palette_of palette.now k) }
+// Whether every double in use is from -reach to reach. Each is looked at, so that no branch hangs on one.
+pub fn all_near(entries: Entries, reach: f64) -> bool
+    ensures { result ≡ all_near reach (in_use entries.entry) }
 {
     let least = -reach;
-    let mut near = true;
-    for i in 0..k {
-        near = between(least, reach, palette[i]) & near;
-        near = between(least, reach, palette[k + i]) & near;
-        near = between(least, reach, palette[2 * k + i]) & near;
-    }
-    near
+    let used = &entries.lab[..3 * entries.k];
+    used.iter()
+        .fold(true, |near, x| between(least, reach, *x) & near)
 }
 
 // Row 5: one of the doubles in use is NaN or beyond 1024 either way.
-pub fn bad_colour(palette: &[f64], k: usize) -> bool
-    requires { (3 * k ≤ length palette.now) × (k ≤ 256) }
-    ensures { result ≡ out_of_range (palette_of palette.now k) }
+pub fn bad_colour(entries: Entries) -> bool
+    ensures { result ≡ out_of_range (in_use entries.entry) }
 {
-    !all_near(palette, k, 1024.0)
+    !all_near(entries, 1024.0)
 }
 
 // Rows 4 to 6; `bad` tells that a setting is out of range.
@@ -116,7 +105,7 @@ pub fn palette_refusal(palette: &[f64], k: usize, bad: bool) -> Result<(), Refus
     if bad_palette(palette, k) {
         return Err(Refusal::WrongLength);
     }
-    if bad_colour(palette, k) {
+    if bad_colour(Entries { lab: palette, k }) {
         return Err(Refusal::ColourOutOfRange);
     }
     let out_of_range = bad;
@@ -145,16 +134,18 @@ pub fn bad_darkening(outline: Outline) -> bool
     }
 }
 
-// Row 7: one of the first n cells names an entry that is not among the first k.
-pub fn bad_index(cells: &[i32], n: usize, k: usize) -> bool
-    requires { (n ≤ length cells.now) × (k ≤ 256) }
-    ensures { result ≡ any n (λ p. le_z (pos k) (at cells.now p)) }
+// Whether a region limit lets a region be small: the smallest region has one cell.
+pub fn some_small(region: i32) -> bool
+    ensures { result ≡ le_z (pos 2) region }
+{
+    2 <= region
+}
+
+// Row 7: one of the cells names an entry that is not among the first k.
+pub fn bad_index(cells: &[i32], k: usize) -> bool
+    requires { k ≤ 256 }
+    ensures { result ≡ any (length cells.now) (λ p. le_z (pos k) (at cells.now p)) }
 {
     let count = k as i32;
-    for i in 0..n {
-        if count <= cells[i] {
-            return true;
-        }
-    }
-    false
+    cells.iter().any(|c| count <= *c)
 }

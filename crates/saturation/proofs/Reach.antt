@@ -19,7 +19,7 @@ use Rattle.color.specs.Lab.{within}
 use Rattle.color.proofs.Range.{Sized, not_above, round_size}
 use Rattle.rules.specs.Palette.{palette_of, out_of_range, saturate}
 use Rattle.refusals.specs.Near.{near, all_near}
-use Rattle.refusals.proofs.Thirds.{out_of_range_lem}
+use Rattle.refusals.proofs.Nearness.{out_of_range_lem}
 use Rattle.saturation.specs.Near.{surely_in_range}
 use Rattle.saturation.proofs.Tones.{part, too_far, too_far-any}
 

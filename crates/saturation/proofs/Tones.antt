@@ -1,7 +1,7 @@
 -- Laws of saturation: the loop that writes it, and the loop that tests it. Assumes nothing.
-use Prim.Native.Nat.{ℕ, ◌+◌, ◌*◌, ◌%◌, ◌<◌}
+use Prim.Native.Nat.{ℕ, zero, suc, ◌+◌, ◌*◌, ◌%◌, ◌<◌}
 use mathlib.Core.Path.{◌≡◌, refl, sym, ap, ◌∙◌}
-use mathlib.Core.Bool.{Bool, not, ◌||◌, cond}
+use mathlib.Core.Bool.{Bool, true, false, not, ◌||◌, cond}
 use mathlib.Core.List.{List}
 use native.Mathlib.Nat.{le_refl}
 use native.Mathlib.Decide.{dec_lt}
@@ -14,10 +14,8 @@ use Rattle.base.specs.Outputs.{filled}
 use Rattle.base.proofs.Counting.{any_same}
 use Rattle.base.proofs.Fills.{filled_at, filled_past, filled_is, filled_none, filled_more}
 use Rattle.base.specs.Doubles.{◌⊗◌}
-use Rattle.color.specs.declared.Lab.{Lab}
 use Rattle.color.specs.Lab.{entry, within}
 use Rattle.rules.specs.Palette.{palette_of, out_of_range, saturate}
-use Rattle.refusals.proofs.Scans.{some_more}
 
 -- the double i of a saturated palette
 unfoldable pub part : List Float → Float → ℕ → Float
@@ -90,18 +88,39 @@ module _ (old : List Float) (beta : Float) where
 unfoldable pub too_far : List Float → Float → ℕ → Bool
 too_far lab beta i = not (within (part lab beta i))
 
+-- a part of the colour i of a saturated palette is
+unfoldable pub colour_far : List Float → Float → ℕ → Bool
+colour_far lab beta i =
+    let c = entry lab i in
+    not (within c.l) || not (within (c.a ⊗ beta)) || not (within (c.b ⊗ beta))
+
 module _ (lab : List Float) (beta : Float) where
-  -- an entry more
-  pub too_far-more : (i : ℕ) {c : Lab} {old l a b : Bool} → old ≡ any (3 * i) (too_far lab beta) → c ≡ entry lab i
-      → l ≡ within c.l → a ≡ within (c.a ⊗ beta) → b ≡ within (c.b ⊗ beta) → (not b || (not a || (not l || old))) ≡ any (3 * (i + 1)) (too_far lab beta)
-  unfolding too_far entry
-  too_far-more i e f el ea eb =
-      let one = some_more (3 * i) (too_far lab beta) e (ap not (el ∙ ap within (ap (λ (x : Lab). x.l) f ∙ sym (part_l lab beta i)))) in
-      let two = some_more (3 * i + 1) (too_far lab beta) one (ap not (ea ∙ ap within (ap (λ (x : Lab). x.a ⊗ beta) f ∙ sym (part_a lab beta i)))) in
-      let p : 3 * i + 1 + 1 ≡ 3 * i + 2 = omega arith in
-      let three = some_more (3 * i + 2) (too_far lab beta) (rw p at two) (ap not (eb ∙ ap within (ap (λ (x : Lab). x.b ⊗ beta) f ∙ sym (part_b lab beta i)))) in
-      let q : 3 * i + 2 + 1 ≡ 3 * (i + 1) = omega arith in
-      rw q at three
+  -- three doubles are those of a colour
+  of_colour : (i : ℕ) (b : Bool) → too_far lab beta (3 * i + 2) || (too_far lab beta (3 * i + 1) || (too_far lab beta (3 * i) || b)) ≡ (colour_far lab beta i || b)
+  unfolding too_far colour_far entry
+  of_colour i b =
+      rw (part_l lab beta i, part_a lab beta i, part_b lab beta i)
+      (turned (not (within (get_or lab (3 * i) nan))) (not (within (get_or lab (3 * i + 1) nan ⊗ beta))) (not (within (get_or lab (3 * i + 2) nan ⊗ beta))) b)
+    where
+      turned : (x y z b : Bool) → (z || (y || (x || b))) ≡ ((x || y || z) || b)
+      turned true y true b = refl
+      turned true true false b = refl
+      turned true false false b = refl
+      turned false true true b = refl
+      turned false true false b = refl
+      turned false false true b = refl
+      turned false false false b = refl
+
+  pub colours_far : (k : ℕ) → any k (colour_far lab beta) ≡ any (3 * k) (too_far lab beta)
+  unfolding any
+  colours_far zero = refl
+  colours_far (suc k) =
+      let three : 3 * suc k ≡ suc (suc (suc (3 * k))) = omega arith in
+      let two : 3 * k + 2 ≡ suc (suc (3 * k)) = omega arith in
+      let one : 3 * k + 1 ≡ suc (3 * k) = omega arith in
+      ap (λ (b : Bool). colour_far lab beta k || b) (colours_far k)
+      ∙ sym (of_colour k (any (3 * k) (too_far lab beta)))
+      ∙ rw (two, one, three) refl
 
   pub too_far-any : (k : ℕ) → out_of_range (saturate beta (palette_of lab k)) ≡ any (3 * k) (too_far lab beta)
   unfolding out_of_range saturate too_far part

@@ -10,6 +10,7 @@ ghost use Rattle.rules.specs.Entries.{saturation_answer, saturation_palette};
 use crate::scaling::{saturate, scaled_too_far};
 use base::Refusal;
 use refusals::{between, palette_refusal};
+use rules::Entries;
 
 // Multiplies a and b of every entry by beta, in place.
 pub fn apply_saturation(palette: &mut [f64], k: usize, beta: f64) -> Result<(), Refusal>
@@ -18,7 +19,7 @@ pub fn apply_saturation(palette: &mut [f64], k: usize, beta: f64) -> Result<(), 
 {
     let bad = !between(0.0, 16.0, beta);
     palette_refusal(palette, k, bad)?;
-    if scaled_too_far(palette, k, beta) {
+    if scaled_too_far(Entries { lab: palette, k }, beta) {
         return Err(Refusal::SettingOutOfRange);
     }
     saturate(palette, k, beta);

@@ -3,46 +3,42 @@ ghost use Rattle.std.specs.Prelude.{◌≡◌, false, ◌*◌, ◌<◌, ◌≤�
 ghost use Rattle.std.specs.Float.{nan};
 ghost use Rattle.base.specs.Doubles.{◌⊗◌};
 ghost use Rattle.rules.specs.Palette.{palette_of, saturate, out_of_range};
+ghost use Rattle.rules.specs.InUse.{in_use};
 ghost use Rattle.saturation.specs.Near.{surely_in_range};
 
-use color::cielab::{entry, within};
+use color::cielab::within;
 use refusals::{all_near, between};
+use rules::Entries;
 
 // Whether beta and every double in use are so near 0 that no product of a palette in range can be out of range.
-fn surely_in_range(palette: &[f64], k: usize, beta: f64) -> bool
-    requires { (3 * k ≤ length palette.now) × (k ≤ 256) }
-    ensures { result ≡ surely_in_range beta (palette_of palette.now k) }
+fn surely_in_range(entries: Entries, beta: f64) -> bool
+    ensures { result ≡ surely_in_range beta (in_use entries.entry) }
 {
     if between(-1.0, 1.0, beta) {
         return true;
     }
-    between(-4.0, 4.0, beta) && all_near(palette, k, 256.0)
+    between(-4.0, 4.0, beta) && all_near(entries, 256.0)
 }
 
-// Whether a multiplied a or b is NaN or beyond 1024 either way, by every product.
-fn any_scaled_too_far(palette: &[f64], k: usize, beta: f64) -> bool
-    requires { (3 * k ≤ length palette.now) × (k ≤ 256) }
-    ensures { result ≡ out_of_range (saturate beta (palette_of palette.now k)) }
+// Whether a multiplied a or b is NaN or beyond 1024 either way, by the products. The three parts of a colour are looked at with no branch between them.
+fn any_scaled_too_far(entries: Entries, beta: f64) -> bool
+    ensures { result ≡ out_of_range (saturate beta (in_use entries.entry)) }
 {
-    let mut bad = false;
-    for i in 0..k {
-        let c = entry(palette, i);
-        bad = !within(c.l) | bad;
-        bad = !within(c.a * beta) | bad;
-        bad = !within(c.b * beta) | bad;
-    }
-    bad
+    (0..entries.k).any(|i| {
+        let c = entries.colour(i);
+        !within(c.l) | !within(c.a * beta) | !within(c.b * beta)
+    })
 }
 
 // Whether a multiplied a or b of a palette in range is NaN or beyond 1024 either way.
-pub fn scaled_too_far(palette: &[f64], k: usize, beta: f64) -> bool
-    requires { (3 * k ≤ length palette.now) × (k ≤ 256) × (out_of_range (palette_of palette.now k) ≡ false) }
-    ensures { result ≡ out_of_range (saturate beta (palette_of palette.now k)) }
+pub fn scaled_too_far(entries: Entries, beta: f64) -> bool
+    requires { out_of_range (in_use entries) ≡ false }
+    ensures { result ≡ out_of_range (saturate beta (in_use entries.entry)) }
 {
-    if surely_in_range(palette, k, beta) {
+    if surely_in_range(entries, beta) {
         return false;
     }
-    any_scaled_too_far(palette, k, beta)
+    any_scaled_too_far(entries, beta)
 }
 
 // Multiplies the double at a place by beta.

@@ -3,7 +3,7 @@ use mathlib.Core.Path.{ap, ◌∙◌}
 use mathlib.Core.Bool.{not}
 use lib.Ieee.{of_bits, round}
 use Rattle.base.specs.Doubles.{decimal}
-use Rattle.refusals.proofs.Thirds.{out_of_range_lem}
+use Rattle.refusals.proofs.Nearness.{out_of_range_lem}
 use Rattle.refusals.proofs.bad_colour.Goals as goal
 
 pub returns : goal.returns

@@ -37,11 +37,16 @@ unfolding saturation_palette between decimal round of_bits
 returns-in_err-palette_refusal-clause-palette_after c =
     some_unless _ _ (refused_palette _ _ (answered_some _ (rw c.between-bad.ensures at c.in_err-palette_refusal.ensures) refl))
 
+pub invariant_of-scaled_too_far : goal.invariant_of-scaled_too_far
+unfolding between decimal round of_bits
+invariant_of-scaled_too_far c =
+    let u = usable _ c.args.beta (rw c.between-bad.ensures at c.in_ok-palette_refusal.ensures) in
+    record { room = (omega (arith, u.few, u.whole), u.few) }
+
 pub scaled_too_far-requires : goal.scaled_too_far-requires
 unfolding between decimal round of_bits
 scaled_too_far-requires c =
-    let u = usable _ c.args.beta (rw c.between-bad.ensures at c.in_ok-palette_refusal.ensures) in
-    (omega (arith, u.few, u.whole), u.few, u.ranged)
+    (usable _ c.args.beta (rw c.between-bad.ensures at c.in_ok-palette_refusal.ensures)).ranged
 
 pub returns-then-scaled_too_far-clause-value : goal.returns-then-scaled_too_far-clause-value
 unfolding saturation_answer between decimal round of_bits
