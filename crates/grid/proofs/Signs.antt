@@ -41,7 +41,13 @@ sum_is a d f s = ap (λ (x : ℤ). to_z w32 a +ℤ x) (to_z-of_z f) ∙ ap (λ (
 pub sum_back : (a : ℕ) (d : ℤ) → SFits w32 d → Short a d → to_z w32 (of_z w32 (to_z w32 a +ℤ to_z w32 (of_z w32 d))) ≡ pos a +ℤ d
 sum_back a d f s = ap (λ (x : ℤ). to_z w32 (of_z w32 x)) (sum_is a d f s) ∙ to_z-of_z (short_fits a d s)
 
--- ---- one more than a single step
+-- ---- a single step, and one more than it
+
+-- it is handed over as it is
+pub single_is : {d : ℤ} → Single d → to_z w32 (of_z w32 d) ≡ d
+single_is Single.back = refl
+single_is Single.stay = refl
+single_is Single.on = refl
 
 pub single_fits : {d : ℤ} → Single d → SFits w32 (d +ℤ pos 1)
 single_fits Single.back = small (pos 0) (lit< tt)

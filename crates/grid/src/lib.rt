@@ -28,12 +28,13 @@ impl Neighbourhood {
     }
 }
 
-// A grid of h rows of w cells, and which cells are neighbours on it.
+// A grid of h rows of w cells, at most 514 each, and which cells are neighbours on it.
 #[derive(Clone, Copy)]
 pub struct Grid {
     pub h: usize,
     pub w: usize,
     pub near: Neighbourhood,
+    pub ghost range: { (h ≤ 514) × (w ≤ 514) },
 }
 
 // A step from the place p, by dy rows and dx columns; unless `border`, p lies on no edge.
@@ -70,28 +71,6 @@ fn along(at: usize, d: i32, len: usize) -> Option<usize>
     if next < len { Some(next) } else { None }
 }
 
-// The step of dy rows and dx columns from row y and column x.
-pub fn neighbour(y: usize, x: usize, dy: i32, dx: i32, h: usize, w: usize) -> Option<usize>
-    requires y_lt_h { (y < h) × (x < w) × (h ≤ 514) × (w ≤ 514) }
-    requires dy_value { (le_z (negsuc 1) dy ≡ true) × (le_z dy (pos 2) ≡ true) × (le_z (negsuc 1) dx ≡ true) × (le_z dx (pos 2) ≡ true) }
-    ensures { result ≡ step_to h w y x dy dx }
-{
-    let row = along(y, dy, h)?;
-    let col = along(x, dx, w)?;
-    Some(row * w + col)
-}
-
-// Whether the place p lies on the border of the grid.
-#[tactic(auto, unfolding(rules::specs::Grid::on_edge))]
-pub fn on_edge(p: usize, h: usize, w: usize) -> bool
-    requires { (p < h * w) × (h ≤ 514) × (w ≤ 514) }
-    ensures { result ≡ on_edge h w p }
-{
-    let y = p / w;
-    let x = p % w;
-    y == 0 || x == 0 || y + 1 == h || x + 1 == w
-}
-
 // One more than a step of -1, 0 or 1.
 fn past(d: i32) -> usize
     requires { Single d }
@@ -100,18 +79,43 @@ fn past(d: i32) -> usize
     (d + 1) as usize
 }
 
-// The step of dy rows and dx columns from the place p: from within the border every step leads to a cell.
-pub fn reached(p: usize, dy: i32, dx: i32, border: bool, h: usize, w: usize) -> Option<usize>
-    requires p_bound { (p < h * w) × (h ≤ 514) × (w ≤ 514) }
-    requires single { Single dy × Single dx × (border ≡ false → Inner h w p) }
-    ensures { result ≡ step_to h w (p / w) (p % w) dy dx }
-{
-    if border {
-        return neighbour(p / w, p % w, dy, dx, h, w);
+impl Grid {
+    // The step of dy rows and dx columns from row y and column x.
+    pub fn neighbour(self, y: usize, x: usize, dy: i32, dx: i32) -> Option<usize>
+        requires y_lt_h { (y < self.h) × (x < self.w) }
+        requires dy_value { (le_z (negsuc 1) dy ≡ true) × (le_z dy (pos 2) ≡ true) × (le_z (negsuc 1) dx ≡ true) × (le_z dx (pos 2) ≡ true) }
+        ensures { result ≡ step_to self.h self.w y x dy dx }
+    {
+        let row = along(y, dy, self.h)?;
+        let col = along(x, dx, self.w)?;
+        Some(row * self.w + col)
     }
-    let rows = past(dy);
-    let cols = past(dx);
-    let to = p + rows * w + cols;
-    let over = w + 1;
-    Some(to - over)
+
+    // Whether the place p lies on the border.
+    #[tactic(auto, unfolding(rules::specs::Grid::on_edge))]
+    pub fn on_edge(self, p: usize) -> bool
+        requires { p < self.h * self.w }
+        ensures { result ≡ on_edge self.h self.w p }
+    {
+        let y = p / self.w;
+        let x = p % self.w;
+        y == 0 || x == 0 || y + 1 == self.h || x + 1 == self.w
+    }
+
+    // Where a step leads: from within the border every step leads to a cell.
+    pub fn reached(self, step: Move) -> Option<usize>
+        requires p_bound { step.p < self.h * self.w }
+        requires single { Single step.dy × Single step.dx × (step.border ≡ false → Inner self.h self.w step.p) }
+        ensures { result ≡ step_to self.h self.w (step.p / self.w) (step.p % self.w) step.dy step.dx }
+    {
+        let p = step.p;
+        if step.border {
+            return self.neighbour(p / self.w, p % self.w, step.dy, step.dx);
+        }
+        let rows = past(step.dy);
+        let cols = past(step.dx);
+        let to = p + rows * self.w + cols;
+        let over = self.w + 1;
+        Some(to - over)
+    }
 }

@@ -26,12 +26,6 @@ use Rattle.jaggies.proofs.Steps.{same_paint, finds_paint}
 pub on_both_same : {x y a : ℕ} → x ≡ y → OnBoth x y a
 on_both_same e = record { there = λ h. sym e ∙ h; back = λ h. e ∙ h }
 
-pub on_both_there : {x y a : ℕ} → x ≡ a → y ≡ a → OnBoth x y a
-on_both_there e f = record { there = λ h. f; back = λ h. e }
-
-pub on_neither : {x y a : ℕ} → (x ≡ a → ⊥) → (y ≡ a → ⊥) → OnBoth x y a
-on_neither e f = record { there = λ h. absurd (e h); back = λ h. absurd (f h) }
-
 pub either_no : (b d : Bool) → not (b && d) ≡ true → (b ≡ false) ⊎ (d ≡ false)
 either_no false d e = inl refl
 either_no true false e = inr refl
@@ -102,9 +96,12 @@ module _ (s : Sheet) (p : ℕ) (c : Corner) (a b : ℕ) (la : 0 < a) (e : b ≡ 
 -- ---- which corner a cell can be
 
 -- the ways that `toward` tells, as the machine holds them
-pub toward_held : (next a : ℕ) → to_z w32 (of_z w32 (toward next a)) ≡ toward next a
+toward-held : (next a : ℕ) → to_z w32 (of_z w32 (toward next a)) ≡ toward next a
 unfolding toward
-toward_held next a = case (eqb next a) (λ y. rw y refl) (λ z. rw z refl)
+toward-held next a = case (eqb next a) (λ y. rw y refl) (λ z. rw z refl)
+
+pub toward_held : (next a : ℕ) {z : ℤ} → z ≡ toward next a → to_z w32 (of_z w32 z) ≡ toward next a
+toward_held next a e = rw e (toward-held next a)
 
 pub toward_one : (next a : ℕ) → unsigned_abs (to_z w32 (of_z w32 (toward next a))) ≡ 1
 unfolding toward
@@ -211,9 +208,9 @@ module _ (s : Sheet) (p : ℕ) (a : ℕ) (la : 0 < a) where
         sym (by_four ∙ rw (not_up (negsuc 0) k.there, not_up (pos 1) k.there, not_down (negsuc 0) k.back, not_down (pos 1) k.back))
 
     -- else the one corner that it can be
-    pub turned : unwrap_or (corner (toward d a) (toward r a)) a ≡ paint_of (trimmed_by s p corners (cell_of a))
+    pub turned : {sy sx : ℤ} → sy ≡ toward d a → sx ≡ toward r a → unwrap_or (corner sy sx) a ≡ paint_of (trimmed_by s p corners (cell_of a))
     unfolding toward
-    turned = sym (by_four ∙ pick)
+    turned e f = rw (e, f) (sym (by_four ∙ pick))
       where
         pick : unwrap_or (corner (negsuc 0) (negsuc 0)) (unwrap_or (corner (negsuc 0) (pos 1)) (unwrap_or (corner (pos 1) (negsuc 0)) (unwrap_or (corner (pos 1) (pos 1)) a))) ≡ unwrap_or (corner (toward d a) (toward r a)) a
         pick = case (eqb d a)

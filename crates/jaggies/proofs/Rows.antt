@@ -25,12 +25,6 @@ use Rattle.jaggies.specs.declared.Spot.{Spot}
 use Rattle.jaggies.specs.Rows.{place_of, end_of, spot, paint_at, most, Paints, Room, Held, Shown, Trimmed, Moved}
 use Rattle.jaggies.proofs.Cuts.{solid, clear, cell_paint, unpaint}
 
--- a loop of n turns over a list of one length, D done so far
-pub record Turns {A : Type 0} (i n : ℕ) (first now : List A) (D : Type 0) : Type 0 where
-  pub below : i ≤ n
-  pub same : length now ≡ length first
-  pub done : D
-
 -- ---- one spot
 
 -- room is a matter of lengths
@@ -180,27 +174,21 @@ module _ {cells : List ℤ} {w end : ℕ} {before work : List ℕ} (m : Moved ce
 -- ---- the whole sheet
 
 -- y rows of the sheet `old` are trimmed, and the last three of them are held
-pub record Rowed (old : List ℤ) (before : List ℕ) (h w : ℕ) (cells : List ℤ) (work : List ℕ) (y : ℕ) : Type 0 where
-  pub below : y ≤ h
-  pub sheet : length cells ≡ length old
-  pub same : length work ≡ length before
+pub record Rowed (old : List ℤ) (h w : ℕ) (cells : List ℤ) (work : List ℕ) (y : ℕ) : Type 0 where
   pub trimmed : Trimmed old h w (y * w) cells
   pub held : Held old work w (y * w)
   pub paints : Paints work w (y * w)
 
-pub no_rows : (old : List ℤ) (work : List ℕ) (h w : ℕ) → h * w ≤ length old → Rowed old work h w old work 0
+pub no_rows : (old : List ℤ) (work : List ℕ) (h w : ℕ) → h * w ≤ length old → Rowed old h w old work 0
 no_rows old work h w l =
     let z : 0 * w ≡ 0 = zero-mul w in
     record {
-      below = omega arith;
-      sheet = refl;
-      same = refl;
       trimmed = rw z (record { whole = l; filled = filled_none (trimmed (sheet_of old h w)) old });
       held = record { paint = λ q y a. absurd (omega arith) };
       paints = record { small = λ q y a. absurd (omega arith) };
     }
 
-module _ {old : List ℤ} {before : List ℕ} {h w : ℕ} {cells : List ℤ} {work : List ℕ} {y : ℕ} (r : Rowed old before h w cells work y) (l : y < h) where
+module _ {old : List ℤ} {h w : ℕ} {cells : List ℤ} {work : List ℕ} {y : ℕ} (r : Rowed old h w cells work y) (l : y < h) where
   -- the row's end is on the sheet
   pub row_end : y * w + w ≤ h * w
   row_end = let k : y + 1 ≤ h = omega arith in omega (arith, mul-le-mul_right w k, add-mul y 1 w)
@@ -212,27 +200,24 @@ module _ {old : List ℤ} {before : List ℕ} {h w : ℕ} {cells : List ℤ} {wo
       (read_at old q (omega (arith, row_end, r.trimmed.whole)))
 
   -- once the row is taken in there is room for its tests
-  pub row_room : {new : List ℕ} → Moved cells w (y * w) work new w → length new ≡ length work → h ≤ 512 → w ≤ 512 → 3 * w ≤ length work → (x : ℕ) → x < w → Room cells new (spot h w y x)
-  row_room m e a b c x k = record {
+  pub row_room : {new : List ℕ} → length cells ≡ length old → Moved cells w (y * w) work new w → h ≤ 512 → w ≤ 512 → 3 * w ≤ length new → (x : ℕ) → x < w → Room cells new (spot h w y x)
+  row_room e m a b c x k = record {
     row = l;
     col = k;
     tall = a;
     wide = b;
-    sheet = omega (arith, r.trimmed.whole, r.sheet);
-    rows = omega arith;
+    sheet = omega (arith, r.trimmed.whole, e);
+    rows = c;
     paints = paints_on m r.paints;
   }
 
   -- one more row
-  pub rowed_more : {new : List ℕ} {cells' : List ℤ} → Moved cells w (y * w) work new w → length new ≡ length work → length cells' ≡ length cells →
-      (Held old new w (y * w + w) → Trimmed old h w (y * w) cells → Trimmed old h w (y * w + w) cells') → Rowed old before h w cells' new (y + 1)
-  rowed_more m e f t =
+  pub rowed_more : {new : List ℕ} {cells' : List ℤ} → Moved cells w (y * w) work new w →
+      (Held old new w (y * w + w) → Trimmed old h w (y * w) cells → Trimmed old h w (y * w + w) cells') → Rowed old h w cells' new (y + 1)
+  rowed_more m t =
       let next : y * w + w ≡ (y + 1) * w = omega (arith, add-mul y 1 w) in
       let held = held_on m r.held ahead in
       record {
-        below = omega arith;
-        sheet = f ∙ r.sheet;
-        same = e ∙ r.same;
         trimmed = rw next at (t held r.trimmed);
         held = rw next at held;
         paints = rw next at (paints_on m r.paints);

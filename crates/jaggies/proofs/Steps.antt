@@ -1,7 +1,7 @@
 -- What a step from a spot finds, by paint. Assumes nothing.
 use Prim.Native.Nat.{ℕ, zero, suc, ◌+◌, ◌*◌, ◌/◌, ◌%◌, ◌≤◌, ◌<◌}
 use mathlib.Core.Path.{◌≡◌, refl, sym, ap, ◌∙◌}
-use mathlib.Core.Bool.{true, false}
+use mathlib.Core.Bool.{Bool, true, false}
 use mathlib.Core.List.{List}
 use Rattle.std.specs.Prelude.{Option, None, Some}
 use native.Mathlib.Nat.{mul-le-mul_right, add-mul, div-add-mod'}
@@ -52,6 +52,10 @@ module _ (old : List ℤ) (h w y x : ℕ) (lx : x < w) (dy dx : ℤ) where
   look-on q l e = rw (from_place ∙ e, look) (ap paint_of (sym (get_or-take (h * w) old q (negsuc 0) l)))
 
 module _ (s : Sheet) (p : ℕ) where
+  -- equal steps find the same
+  pub found_by : {dy dy' dx dx' : ℤ} (a : ℤ) {r : Bool} → dy ≡ dy' → dx ≡ dx' → r ≡ finds s p dy dx a → r ≡ finds s p dy' dx' a
+  found_by a e f g = rw (sym e, sym f) g
+
   -- a step finds an opaque cell exactly if it finds its paint
   pub finds_paint : (dy dx : ℤ) (a : ℕ) → 0 < a → eqb (seen (look s p dy dx)) a ≡ finds s p dy dx (cell_of a)
   unfolding finds seen

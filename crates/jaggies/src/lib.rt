@@ -11,7 +11,8 @@ ghost use Rattle.grid.specs.Planes.{paint_of, cell_of};
 ghost use Rattle.jaggies.specs.Rows.{place_of, end_of, spot, most, paint_at, Room, Held, Trimmed, Moved, Short, way, seen, cut, toward, OnBoth};
 
 use base::Refusal;
-use grid::neighbour;
+use grid::tile::paint;
+use grid::{Grid, Neighbourhood};
 use refusals::sheet_refusal;
 
 // What `look` gives for a transparent cell.
@@ -44,17 +45,8 @@ struct View<'a> {
     ghost room: { Room cells.now work.now at },
 }
 
-// 0 for a transparent cell, index + 1 otherwise.
-fn paint(cell: i32) -> u32
-    ensures { (result ≡ paint_of cell) × (result ≤ most) }
-{
-    if cell < 0 {
-        return 0;
-    }
-    cell as u32 + 1
-}
-
 // The way from a spot of the paint a to an arm of its corner: on, if the next cell that way has the paint too, else back.
+#[tactic(auto, unfolding(crate::specs::Rows::toward))]
 fn toward(next: u32, a: u32) -> i32
     ensures { result ≡ toward next a }
 {
@@ -92,7 +84,12 @@ impl View<'_> {
         ensures upper_bound { result ≤ most }
     {
         let at = self.at;
-        match neighbour(at.y, at.x, dy, dx, at.h, at.w) {
+        let grid = Grid {
+            h: at.h,
+            w: at.w,
+            near: Neighbourhood::Eight,
+        };
+        match grid.neighbour(at.y, at.x, dy, dx) {
             Some(q) => self.was(q),
             None => 0,
         }

@@ -25,7 +25,7 @@ invariant_of-corner c = record { rows = rw c.toward.ensures (toward_one _ _); co
 
 pub returns-clause-sees : goal.returns-clause-sees
 returns-clause-sees c old shown =
-    c.unwrap_or.ensures
-    ∙ ap (λ (o : Option ℕ). unwrap_or o c.args.a) (rw (c.toward.ensures, c.toward-2.ensures, toward_held c.look-below.result c.args.a, toward_held c.look-right.result c.args.a) at (c.cut.ensures.sees old shown))
+    c.unwrap_or.ensures ∙ ap (λ (o : Option ℕ). unwrap_or o c.args.a) (c.cut.ensures.sees old shown)
     ∙ turned _ _ _ c.requires.0 _ _ _ _
     (c.look-left.ensures.sees old shown) (c.look-right.ensures.sees old shown) (c.look-above.ensures.sees old shown) (c.look-below.ensures.sees old shown)
+    (toward_held c.look-below.result c.args.a c.toward.ensures) (toward_held c.look-right.result c.args.a c.toward-2.ensures)
