@@ -25,7 +25,7 @@ use Rattle.grid.specs.Planes.{plane, paint_of, cell_of, cells_of, group_at, end_
 use Rattle.grid.proofs.Places.{rows_of, cols_of, hop, hop_in, neighbours-four, neighbours-eight, neighbours-sound, neighbours_complete, some_inj, After, eight-after, four-after}
 use Rattle.grid.proofs.Planes.{plane_read, plane-same, plane_else, plane_other, cells_at, cells_paint, opaque_paint}
 use Rattle.labels.specs.declared.Tally.{Tally}
-use Rattle.labels.specs.Filling.{Sized, blanks, joined, Right, Ordered, Ended, Filled, Shut, Waits, Flood, Begun, Alone, Tinted, LabelledTo, PlanesKept, Since, Visited, word_of, Cleared}
+use Rattle.labels.specs.Filling.{Sized, blanks, joined, Right, Ordered, Ended, Filled, Shut, Waits, Flood, Begun, Alone, Tinted, LabelledTo, PlanesKept, Since, Visited}
 use Rattle.labels.proofs.Filling.{Put, room_left, put_since, at_old, at_new, sheet_kept, since_refl, since_trans, clear_label, link-label, first_next, not_first, first-number, root-is-first, clear_not_first, labelled-opaque, next-root, old_not_first, symm, len, put_here, filled_put}
 
 -- ---- the turns of `visit_all`
@@ -566,24 +566,3 @@ all_labelled {h = h} {w = w} {near = near} {work₀ = work₀} {work = work} {t 
       ends = f.ended.ends;
       foremost = f.ended.foremost;
     })
-
--- ---- the turns of `clear`
-
-pub clear_start : (n : ℕ) (work : List ℕ) → Cleared n 0 work work
-clear_start n work = record { size = refl; word = λ p l. absurd (not-suc-le-zero l); others = λ j p ne lp. refl }
-
-pub clear_more : {n k : ℕ} {old work : List ℕ} {v : ℕ} → Cleared n k old work → 8 * n ≤ length old → k < n → v ≡ word_of (plane n 0 old k) → Cleared n (k + 1) old (set work (n + k) v)
-clear_more {n = n} {k = k} {old = old} {work = work} {v = v} c room l is =
-    let e : n + k ≡ 1 * n + k = omega arith in
-    record {
-      size = simp length-set c.size;
-      word = λ p lp.
-          elim (ℕ_discrete p k) [
-            | yes y ↦ ap (plane n 1 (set work (n + k) v)) y ∙ plane-same n 1 k (n + k) work v e (omega (arith, c.size)) ∙ is ∙ ap (λ (x : ℕ). word_of (plane n 0 old x)) (sym y)
-            | no ne ↦ plane_else n 1 k (n + k) work v e p ne ∙ c.word p (omega arith)
-          ];
-      others = λ j p ne lp. plane_other n 1 k (n + k) work v e j p (λ z. ne (sym z)) l lp ∙ c.others j p ne lp;
-    }
-
-pub clear_all : {n k : ℕ} {old work : List ℕ} → Cleared n k old work → n ≤ k → Cleared n n old work
-clear_all c l = record { size = c.size; word = λ p lp. c.word p (omega arith); others = c.others }

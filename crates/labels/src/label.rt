@@ -8,7 +8,7 @@ ghost use Rattle.grid.specs.Planes.{plane, cells_of, Labelled};
 ghost use Rattle.labels.specs.Filling.{Sized, seen, Coded, blanks, Filled, Shut, Flood, Begun, Alone, Tinted, LabelledTo, PlanesKept, Since, Visited, word_of, Cleared};
 
 use crate::Tally;
-use grid::{Grid, Move, Neighbourhood, OFFSETS8, on_edge, reached};
+use grid::{Grid, Move, Neighbourhood, OFFSETS8};
 
 // No label is above it. A place without a label has in plane 1 its paint and this more.
 const MOST: u32 = 264196;
@@ -16,20 +16,27 @@ const MOST: u32 = 264196;
 // The paint of a transparent place, which is in no region.
 const UNPAINTED: u32 = 0;
 
-// The cell that a step finds joins the region, if it has no label and the region's paint: the word `code`.
-fn visit(work: &mut [u32], g: Grid, m: Move, code: u32, t: Tally) -> Tally
-    requires p_bound { (m.p < g.h * g.w) × (g.h ≤ 514) × (g.w ≤ 514) × (8 * (g.h * g.w) ≤ length work.old) }
+// The word in plane 1 of an opaque place without a label, which is beyond every label.
+#[derive(Clone, Copy)]
+struct Code {
+    word: u32,
+    ghost beyond: { 264196 < word },
+}
+
+// The cell that a step finds joins the region, if it has no label and the region's paint: the word of `code`.
+fn visit(work: &mut [u32], g: Grid, m: Move, code: Code, t: Tally) -> Tally
+    requires p_bound { (m.p < g.h * g.w) × (8 * (g.h * g.w) ≤ length work.old) }
     requires single { Single m.dy × Single m.dx × (m.border ≡ false → Inner g.h g.w m.p) }
     requires work_bound { (t.taken + blanks (g.h * g.w) (seen (g.h * g.w) work.old) ≤ g.h * g.w) × (0 < t.regions) × (t.regions ≤ 264196) }
-    requires coded { Coded (g.h * g.w) work.old × (264196 < code) }
-    ensures visited { Visited (g.h * g.w) (step_to g.h g.w (m.p / g.w) (m.p % g.w) m.dy m.dx) (code - 264196) (seen (g.h * g.w) work.old) t (seen (g.h * g.w) work.new) result }
+    requires coded { Coded (g.h * g.w) work.old }
+    ensures visited { Visited (g.h * g.w) (step_to g.h g.w (m.p / g.w) (m.p % g.w) m.dy m.dx) (code.word - 264196) (seen (g.h * g.w) work.old) t (seen (g.h * g.w) work.new) result }
     ensures coded_2 { Coded (g.h * g.w) work.new }
 {
     let n = g.h * g.w;
-    let Some(q) = reached(m.p, m.dy, m.dx, m.border, g.h, g.w) else {
+    let Some(q) = g.reached(m) else {
         return t;
     };
-    if work[n + q] != code {
+    if work[n + q] != code.word {
         return t;
     }
     let mark = t.regions;
@@ -44,16 +51,16 @@ fn visit(work: &mut [u32], g: Grid, m: Move, code: u32, t: Tally) -> Tally
 }
 
 // The cell that waits at head: its neighbours join its region.
-fn visit_all(work: &mut [u32], g: Grid, head: usize, code: u32, from: Tally) -> Tally
-    requires flood { Flood g.h g.w g.near (seen (g.h * g.w) work.old) head from × Coded (g.h * g.w) work.old × Tinted (g.h * g.w) (seen (g.h * g.w) work.old) head from.taken (code - 264196) }
-    requires head_lt_taken { (head < from.taken) × (264196 < code) }
-    ensures flood_2 { Flood g.h g.w g.near (seen (g.h * g.w) work.new) (head + 1) result × Coded (g.h * g.w) work.new × Tinted (g.h * g.w) (seen (g.h * g.w) work.new) (head + 1) result.taken (code - 264196) }
+fn visit_all(work: &mut [u32], g: Grid, head: usize, code: Code, from: Tally) -> Tally
+    requires flood { Flood g.h g.w g.near (seen (g.h * g.w) work.old) head from × Coded (g.h * g.w) work.old × Tinted (g.h * g.w) (seen (g.h * g.w) work.old) head from.taken (code.word - 264196) }
+    requires head_lt_taken { head < from.taken }
+    ensures flood_2 { Flood g.h g.w g.near (seen (g.h * g.w) work.new) (head + 1) result × Coded (g.h * g.w) work.new × Tinted (g.h * g.w) (seen (g.h * g.w) work.new) (head + 1) result.taken (code.word - 264196) }
     ensures since { Since (g.h * g.w) (seen (g.h * g.w) work.old) (seen (g.h * g.w) work.new) }
     ensures regions_value { (result.regions ≡ from.regions) × (from.taken ≤ result.taken) }
 {
     let n = g.h * g.w;
     let p = work[2 * n + head] as usize;
-    let border = on_edge(p, g.h, g.w);
+    let border = g.on_edge(p);
     let steps = g.near.steps();
     let mut t = from;
     for k in 0..8 {
@@ -67,9 +74,8 @@ fn visit_all(work: &mut [u32], g: Grid, head: usize, code: u32, from: Tally) -> 
 }
 
 // The whole region of the cells that wait from `first` on.
-fn flood(work: &mut [u32], g: Grid, first: usize, code: u32, from: Tally) -> Tally
-    requires flood { Flood g.h g.w g.near (seen (g.h * g.w) work.old) first from × Coded (g.h * g.w) work.old × Tinted (g.h * g.w) (seen (g.h * g.w) work.old) first from.taken (code - 264196) }
-    requires lt_code { 264196 < code }
+fn flood(work: &mut [u32], g: Grid, first: usize, code: Code, from: Tally) -> Tally
+    requires { Flood g.h g.w g.near (seen (g.h * g.w) work.old) first from × Coded (g.h * g.w) work.old × Tinted (g.h * g.w) (seen (g.h * g.w) work.old) first from.taken (code.word - 264196) }
     ensures filled { Filled g.h g.w g.near (seen (g.h * g.w) work.new) (result.regions - 1) result Shut × Coded (g.h * g.w) work.new }
     ensures since { Since (g.h * g.w) (seen (g.h * g.w) work.old) (seen (g.h * g.w) work.new) }
     ensures regions_value { result.regions ≡ from.regions }
@@ -83,26 +89,25 @@ fn flood(work: &mut [u32], g: Grid, first: usize, code: u32, from: Tally) -> Tal
     t
 }
 
-// Whether no neighbour after s has the word `code`.
-fn alone(work: &[u32], g: Grid, s: usize, code: u32) -> bool
+// Whether no neighbour after s has the word of `code`.
+fn alone(work: &[u32], g: Grid, s: usize, code: Code) -> bool
     requires { Sized g.h g.w work.now × (s < g.h * g.w) }
-    ensures { result ≡ true → Alone (g.h * g.w) g.w g.near work.now s code }
+    ensures { result ≡ true → Alone (g.h * g.w) g.w g.near work.now s code.word }
 {
     let at = g.h * g.w + s;
     let below = at + g.w;
-    if work[at + 1] == code || work[below] == code {
+    if work[at + 1] == code.word || work[below] == code.word {
         return false;
     }
     match g.near {
         Neighbourhood::Four => true,
-        Neighbourhood::Eight => work[below - 1] != code && work[below + 1] != code,
+        Neighbourhood::Eight => work[below - 1] != code.word && work[below + 1] != code.word,
     }
 }
 
 // The whole region that begins at s, which alone waits: nothing joins it if no neighbour after s has its code.
-fn fill(work: &mut [u32], g: Grid, s: usize, first: usize, code: u32, from: Tally) -> Tally
-    requires begun { Begun g.h g.w g.near (seen (g.h * g.w) work.old) s first from × Coded (g.h * g.w) work.old × Tinted (g.h * g.w) (seen (g.h * g.w) work.old) first from.taken (code - 264196) }
-    requires lt_code { 264196 < code }
+fn fill(work: &mut [u32], g: Grid, s: usize, first: usize, code: Code, from: Tally) -> Tally
+    requires { Begun g.h g.w g.near (seen (g.h * g.w) work.old) s first from × Coded (g.h * g.w) work.old × Tinted (g.h * g.w) (seen (g.h * g.w) work.old) first from.taken (code.word - 264196) }
     ensures filled { Filled g.h g.w g.near (seen (g.h * g.w) work.new) (result.regions - 1) result Shut × Coded (g.h * g.w) work.new }
     ensures since { Since (g.h * g.w) (seen (g.h * g.w) work.old) (seen (g.h * g.w) work.new) }
     ensures regions_value { result.regions ≡ from.regions }
@@ -123,10 +128,11 @@ fn begin(work: &mut [u32], g: Grid, s: usize, t: Tally) -> Tally
     ensures since { Since (g.h * g.w) (seen (g.h * g.w) work.old) (seen (g.h * g.w) work.new) }
 {
     let n = g.h * g.w;
-    let code = work[n + s];
-    if code <= MOST {
+    let word = work[n + s];
+    if word <= MOST {
         return t;
     }
+    let code = Code { word };
     let before = t.regions;
     let at = t.taken;
     let mark = before + 1;
@@ -158,8 +164,9 @@ fn clear(work: &mut [u32], n: usize)
     requires by_index { (p : ℕ) → p < n → plane n 0 work.old p ≤ 2147483648 }
     ensures { Cleared n n work.old work.new }
 {
-    for i in 0..n {
-        work[n + i] = word(work[i]);
+    let (paints, rest) = work.split_at_mut(n);
+    for (p, code) in rest[..n].iter_mut().enumerate() {
+        *code = word(paints[p]);
     }
 }
 

@@ -8,7 +8,7 @@ ghost use Rattle.rules.specs.Masks.{regions_answer, regions_labels};
 
 use crate::label::label_into;
 use base::Refusal;
-use grid::tile::load;
+use grid::tile::Tile;
 use grid::{Grid, Neighbourhood};
 use refusals::grid_refusal;
 
@@ -31,7 +31,8 @@ pub fn label_regions(
     ensures labels_after { labels.new ≡ regions_labels cells.now h w labels.old (length work.old) }
 {
     grid_refusal(h, w, cells.len(), labels.len(), work.len())?;
-    load(cells, work, 0, w, h, w);
+    Tile::whole(h, w).load(cells, work);
     let near = Neighbourhood::Eight;
-    Ok(label_into(work, Grid { h, w, near }, labels))
+    let grid = Grid { h, w, near };
+    Ok(label_into(work, grid, labels))
 }

@@ -10,7 +10,6 @@ use native.Mathlib.Omega.{arith}
 use borrow.Rule.Slice.PartMut.{put_mid}
 use Rattle.std.proofs.Common.{append_assoc, below_more}
 use Rattle.std.proofs.lemmas.List.{take_at, drop_at, drop-drop}
-use lib.Dec.{ltb}
 use lib.ListN.{length, get_or, set, take, drop, replicate, length-append, length-drop, length-replicate, get_or-append, get_or-replicate}
 use lib.Seq.{ext_get_or, get_or-set_same, get_or-set_other, get_or-append_right, get_or-take, get_or-drop, length-take-le}
 use Rattle.base.specs.Outputs.{filled}

@@ -3,7 +3,7 @@
 ghost use Rattle.std.specs.Prelude.{◌≡◌, ℕ, ◌+◌, ◌-◌, ◌*◌, ◌/◌, ◌%◌, ◌≤◌, ◌<◌, length, get_or};
 ghost use Rattle.base.specs.Places.{table, count};
 ghost use Rattle.base.specs.Outputs.{filled};
-ghost use Rattle.rules.specs.Masks.{reach_of, dilated_at, dilation_answer, dilation_out};
+ghost use Rattle.rules.specs.Masks.{is_set, reach_of, dilated_at, dilation_answer, dilation_out};
 ghost use Rattle.mask.specs.Lines.{bit_of, less, set_in, padded, next_count, grows, Counted};
 
 use base::Refusal;
@@ -15,12 +15,20 @@ const UNSET: u8 = 0;
 // A dilation by more iterations is refused.
 const MOST_ITERATIONS: u32 = 65535;
 
+// A nonzero byte is set.
+#[tactic(auto, unfolding(rules::specs::Masks::is_set))]
+pub fn is_set(v: u8) -> bool
+    ensures { result ≡ is_set v }
+{
+    v != UNSET
+}
+
 // 1 for a byte that is set.
-#[tactic(auto, unfolding(crate::specs::Lines::bit_of, rules::specs::Masks::is_set))]
+#[tactic(auto, unfolding(crate::specs::Lines::bit_of))]
 pub fn bit(v: u8) -> u32
     ensures { result ≡ bit_of v }
 {
-    u32::from(v != UNSET)
+    u32::from(is_set(v))
 }
 
 // How far a dilation reaches; 0 stands for the whole mask.

@@ -35,5 +35,6 @@ pub fn label4(
     let n = h * w;
     paint(&mask[..n], &mut work[..n]);
     let near = Neighbourhood::Four;
-    Ok(label_into(work, Grid { h, w, near }, labels))
+    let grid = Grid { h, w, near };
+    Ok(label_into(work, grid, labels))
 }

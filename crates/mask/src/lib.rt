@@ -4,5 +4,5 @@
 mod dilation;
 mod label;
 
-pub use dilation::binary_dilation8;
+pub use dilation::{binary_dilation8, is_set};
 pub use label::label4;

@@ -24,7 +24,14 @@ load-requires c =
     let a = c.args in
     let z : grid_refusal a.h a.w (length a.cells.now) (length a.labels.now) (length a.work.now) [] ≡ None = answered_none (tt {0}) c.in_ok-grid_refusal.ensures refl in
     let f = grid_room z in
-    whole_tile _ _ _ _ (omega (arith, f.0.high)) (omega (arith, f.0.wide)) f.0.held f.0.free
+    rw c.whole.ensures (whole_tile _ _ _ _ (omega (arith, f.0.high)) (omega (arith, f.0.wide)) f.0.held f.0.free)
+
+pub invariant_of-grid : goal.invariant_of-grid
+invariant_of-grid c =
+    let a = c.args in
+    let z : grid_refusal a.h a.w (length a.cells.now) (length a.labels.now) (length a.work.now) [] ≡ None = answered_none (tt {0}) c.in_ok-grid_refusal.ensures refl in
+    let f = grid_room z in
+    record { range = (omega (arith, f.0.high), omega (arith, f.0.wide)) }
 
 pub label_into-requires-clause-sized : goal.label_into-requires-clause-sized
 label_into-requires-clause-sized c =
@@ -34,7 +41,7 @@ label_into-requires-clause-sized c =
     (record { rows = omega (arith, f.0.high); cols = omega (arith, f.0.wide); planes = omega (arith, f.0.free, c.load.auto.work) }, f.1)
 
 pub label_into-requires-clause-by_index : goal.label_into-requires-clause-by_index
-label_into-requires-clause-by_index c = paints_plane c.load.ensures.paints
+label_into-requires-clause-by_index c = paints_plane (rw c.whole.ensures at c.load.ensures.paints)
 
 pub returns-clause-value : goal.returns-clause-value
 unfolding regions_answer regions_refusal
@@ -42,7 +49,7 @@ returns-clause-value c =
     let a = c.args in
     let z : grid_refusal a.h a.w (length a.cells.now) (length a.labels.now) (length a.work.now) [] ≡ None = answered_none (tt {0}) c.in_ok-grid_refusal.ensures refl in
     let n = a.h * a.w in
-    let s : Painted (take n a.cells.now) n c.load.new.work = subst (Painted (take n a.cells.now) n) (sym c.load.ensures.work_after) (load_whole a.cells.now a.work.now a.h a.w (grid_room z).0.held) in
+    let s : Painted (take n a.cells.now) n c.load.new.work = subst (Painted (take n a.cells.now) n) (sym (rw c.whole.ensures at c.load.ensures.work_after)) (load_whole a.cells.now a.work.now a.h a.w (grid_room z).0.held) in
     none_answered _ z (c.label_into.ensures.value ∙ painted-regions s (neighbours-eight a.w))
 
 pub returns-clause-labels_after : goal.returns-clause-labels_after
@@ -51,5 +58,5 @@ returns-clause-labels_after c =
     let a = c.args in
     let z : grid_refusal a.h a.w (length a.cells.now) (length a.labels.now) (length a.work.now) [] ≡ None = answered_none (tt {0}) c.in_ok-grid_refusal.ensures refl in
     let n = a.h * a.w in
-    let s : Painted (take n a.cells.now) n c.load.new.work = subst (Painted (take n a.cells.now) n) (sym c.load.ensures.work_after) (load_whole a.cells.now a.work.now a.h a.w (grid_room z).0.held) in
+    let s : Painted (take n a.cells.now) n c.load.new.work = subst (Painted (take n a.cells.now) n) (sym (rw c.whole.ensures at c.load.ensures.work_after)) (load_whole a.cells.now a.work.now a.h a.w (grid_room z).0.held) in
     none_unless _ _ z (c.label_into.ensures.labels_after ∙ painted_labels s (neighbours-eight a.w) _)

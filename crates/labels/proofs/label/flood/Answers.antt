@@ -6,7 +6,7 @@ use Rattle.labels.proofs.Flooding.{whole}
 use Rattle.labels.proofs.label.flood.Goals as goal
 
 pub loop-head-init : goal.loop-head-init
-loop-head-init c = (c.requires.flood, since_refl _, refl)
+loop-head-init c = (c.requires, since_refl _, refl)
 
 pub overflow_add-head : goal.overflow_add-head
 overflow_add-head c =

@@ -28,57 +28,57 @@ returns-in_default-clause-visited c =
 pub overflow_add-n : goal.overflow_add-n
 overflow_add-n c =
     let e : c.reached.result ≡ step_to c.args.g.h c.args.g.w (c.args.m.p / c.args.g.w) (c.args.m.p % c.args.g.w) c.args.m.dy c.args.m.dx = search rules in
-    let on = on_grid (c.args.m.p / c.args.g.w) (c.args.m.p % c.args.g.w) c.args.m.dy c.args.m.dx e c.in-Some.is c.requires.p_bound.1 c.requires.p_bound.2 in
+    let on = on_grid (c.args.m.p / c.args.g.w) (c.args.m.p % c.args.g.w) c.args.m.dy c.args.m.dx e c.in-Some.is c.args.g.range.0 c.args.g.range.1 in
     omega arith
 
 pub offset_bounds-work-n : goal.offset_bounds-work-n
 offset_bounds-work-n c =
     let e : c.reached.result ≡ step_to c.args.g.h c.args.g.w (c.args.m.p / c.args.g.w) (c.args.m.p % c.args.g.w) c.args.m.dy c.args.m.dx = search rules in
-    let on = on_grid (c.args.m.p / c.args.g.w) (c.args.m.p % c.args.g.w) c.args.m.dy c.args.m.dx e c.in-Some.is c.requires.p_bound.1 c.requires.p_bound.2 in
+    let on = on_grid (c.args.m.p / c.args.g.w) (c.args.m.p % c.args.g.w) c.args.m.dy c.args.m.dx e c.in-Some.is c.args.g.range.0 c.args.g.range.1 in
     omega arith
 
 pub bounds-work-n : goal.bounds-work-n
 bounds-work-n c =
     let e : c.reached.result ≡ step_to c.args.g.h c.args.g.w (c.args.m.p / c.args.g.w) (c.args.m.p % c.args.g.w) c.args.m.dy c.args.m.dx = search rules in
-    let on = on_grid (c.args.m.p / c.args.g.w) (c.args.m.p % c.args.g.w) c.args.m.dy c.args.m.dx e c.in-Some.is c.requires.p_bound.1 c.requires.p_bound.2 in
-    omega (arith, c.requires.p_bound.3)
+    let on = on_grid (c.args.m.p / c.args.g.w) (c.args.m.p % c.args.g.w) c.args.m.dy c.args.m.dx e c.in-Some.is c.args.g.range.0 c.args.g.range.1 in
+    omega (arith, c.requires.p_bound.1)
 
 pub returns-then-work-n-clause-visited : goal.returns-then-work-n-clause-visited
 returns-then-work-n-clause-visited c =
     let e : c.reached.result ≡ step_to c.args.g.h c.args.g.w (c.args.m.p / c.args.g.w) (c.args.m.p % c.args.g.w) c.args.m.dy c.args.m.dx = search rules in
-    let on = on_grid (c.args.m.p / c.args.g.w) (c.args.m.p % c.args.g.w) c.args.m.dy c.args.m.dx e c.in-Some.is c.requires.p_bound.1 c.requires.p_bound.2 in
+    let on = on_grid (c.args.m.p / c.args.g.w) (c.args.m.p % c.args.g.w) c.args.m.dy c.args.m.dx e c.in-Some.is c.args.g.range.0 c.args.g.range.1 in
     let n = c.args.g.h * c.args.g.w in
     Visited.kept (λ r f same free.
     let is : r ≡ c.in-Some.q = some_inj (sym f ∙ sym e ∙ c.in-Some.is) in
-    code_kept c.requires.coded.0 c.requires.coded.1 r (omega arith) (λ z. c.if-work-n.true (plane_read n 1 r (n + c.in-Some.q) c.args.work.now (omega arith) ∙ z)) same free)
+    code_kept c.requires.coded c.args.code.beyond r (omega arith) (λ z. c.if-work-n.true (plane_read n 1 r (n + c.in-Some.q) c.args.work.now (omega arith) ∙ z)) same free)
 
 pub overflow_cast-work : goal.overflow_cast-work
 overflow_cast-work c =
     let e : c.reached.result ≡ step_to c.args.g.h c.args.g.w (c.args.m.p / c.args.g.w) (c.args.m.p % c.args.g.w) c.args.m.dy c.args.m.dx = search rules in
-    let on = on_grid (c.args.m.p / c.args.g.w) (c.args.m.p % c.args.g.w) c.args.m.dy c.args.m.dx e c.in-Some.is c.requires.p_bound.1 c.requires.p_bound.2 in
+    let on = on_grid (c.args.m.p / c.args.g.w) (c.args.m.p % c.args.g.w) c.args.m.dy c.args.m.dx e c.in-Some.is c.args.g.range.0 c.args.g.range.1 in
     omega arith
 
 pub returns-clause-visited : goal.returns-clause-visited
 returns-clause-visited c =
     let e : c.reached.result ≡ step_to c.args.g.h c.args.g.w (c.args.m.p / c.args.g.w) (c.args.m.p % c.args.g.w) c.args.m.dy c.args.m.dx = search rules in
-    let on = on_grid (c.args.m.p / c.args.g.w) (c.args.m.p % c.args.g.w) c.args.m.dy c.args.m.dx e c.in-Some.is c.requires.p_bound.1 c.requires.p_bound.2 in
+    let on = on_grid (c.args.m.p / c.args.g.w) (c.args.m.p % c.args.g.w) c.args.m.dy c.args.m.dx e c.in-Some.is c.args.g.range.0 c.args.g.range.1 in
     let n = c.args.g.h * c.args.g.w in
     let q = c.in-Some.q in
     let w = c.args.work.now in
     let t = c.args.t in
-    let f : Fresh n w c.args.code q = code-fresh c.requires.coded.0 c.requires.coded.1 q on.0 (sym (plane_read n 1 q (n + q) w (omega arith)) ∙ c.if-work-n.false) in
-    subst (λ (l : List ℕ). Visited n (step_to c.args.g.h c.args.g.w (c.args.m.p / c.args.g.w) (c.args.m.p % c.args.g.w) c.args.m.dy c.args.m.dx) (c.args.code - 264196) (seen n w) t l (record { regions = t.regions; taken = t.taken + 1 }))
-    (sym (seen-joined n q t.regions t.taken w on.0 (left n q t.taken (seen n w) c.requires.work_bound.0 on.0 f.free) c.requires.work_bound.2 c.requires.p_bound.3))
+    let f : Fresh n w c.args.code.word q = code-fresh c.requires.coded c.args.code.beyond q on.0 (sym (plane_read n 1 q (n + q) w (omega arith)) ∙ c.if-work-n.false) in
+    subst (λ (l : List ℕ). Visited n (step_to c.args.g.h c.args.g.w (c.args.m.p / c.args.g.w) (c.args.m.p % c.args.g.w) c.args.m.dy c.args.m.dx) (c.args.code.word - 264196) (seen n w) t l (record { regions = t.regions; taken = t.taken + 1 }))
+    (sym (seen-joined n q t.regions t.taken w on.0 (left n q t.taken (seen n w) c.requires.work_bound.0 on.0 f.free) c.requires.work_bound.2 c.requires.p_bound.1))
     (Visited.took q (sym e ∙ c.in-Some.is) f.paint f.free)
 
 pub returns-clause-coded_2 : goal.returns-clause-coded_2
 returns-clause-coded_2 c =
     let e : c.reached.result ≡ step_to c.args.g.h c.args.g.w (c.args.m.p / c.args.g.w) (c.args.m.p % c.args.g.w) c.args.m.dy c.args.m.dx = search rules in
-    let on = on_grid (c.args.m.p / c.args.g.w) (c.args.m.p % c.args.g.w) c.args.m.dy c.args.m.dx e c.in-Some.is c.requires.p_bound.1 c.requires.p_bound.2 in
+    let on = on_grid (c.args.m.p / c.args.g.w) (c.args.m.p % c.args.g.w) c.args.m.dy c.args.m.dx e c.in-Some.is c.args.g.range.0 c.args.g.range.1 in
     let n = c.args.g.h * c.args.g.w in
     let q = c.in-Some.q in
     let w = c.args.work.now in
     let t = c.args.t in
     let b = c.requires.work_bound in
-    let f : Fresh n w c.args.code q = code-fresh c.requires.coded.0 c.requires.coded.1 q on.0 (sym (plane_read n 1 q (n + q) w (omega arith)) ∙ c.if-work-n.false) in
-    coded_joined c.requires.coded.0 q t.regions t.taken on.0 (left n q t.taken (seen n w) b.0 on.0 f.free) b.1 b.2 c.requires.p_bound.3
+    let f : Fresh n w c.args.code.word q = code-fresh c.requires.coded c.args.code.beyond q on.0 (sym (plane_read n 1 q (n + q) w (omega arith)) ∙ c.if-work-n.false) in
+    coded_joined c.requires.coded q t.regions t.taken on.0 (left n q t.taken (seen n w) b.0 on.0 f.free) b.1 b.2 c.requires.p_bound.1

@@ -57,6 +57,13 @@ paint-requires c =
     let f = grid_room z in
     length-take-le (a.h * a.w) a.mask.now f.0.held ∙ sym (length-take-le (a.h * a.w) a.work.now (omega (arith, f.0.free)))
 
+pub invariant_of-grid : goal.invariant_of-grid
+invariant_of-grid c =
+    let a = c.args in
+    let z : grid_refusal a.h a.w (length a.mask.now) (length a.labels.now) (length a.work.now) [] ≡ None = answered_none (tt {0}) c.in_ok-grid_refusal.ensures refl in
+    let f = grid_room z in
+    record { range = (omega (arith, f.0.high), omega (arith, f.0.wide)) }
+
 pub label_into-requires : goal.label_into-requires
 label_into-requires c =
     let a = c.args in
