@@ -7,7 +7,7 @@ ghost use Rattle.verdicts.specs.Groups.{Planes, Group};
 ghost use Rattle.frontier.specs.Growing.{Listed, Matches, MatchesAround, MatchesLogged, Enlarged, Repainted, Growth, Gained, Decided, Grew};
 
 use crate::regions::{set_region, small_region};
-use grid::{Grid, Move, OFFSETS8, on_edge, reached};
+use grid::{Grid, Move, OFFSETS8};
 use verdicts::near::any_near;
 use verdicts::{region_size, region_span};
 
@@ -59,7 +59,7 @@ fn absorb(work: &mut [u32], grid: Grid, step: Move, paint: u32, end: usize) -> u
     ensures { Gained grid (λ q. (landing grid step ≡ Some q) × (plane (area_of grid) 0 work.old q ≡ paint)) work.old work.new end result }
 {
     let n = grid.h * grid.w;
-    let Some(q) = reached(step.p, step.dy, step.dx, step.border, grid.h, grid.w) else {
+    let Some(q) = grid.reached(step) else {
         return end;
     };
     let other = work[q] != paint;
@@ -101,7 +101,7 @@ fn absorb_beside(work: &mut [u32], grid: Grid, p: usize, from: usize) -> usize
     if !small_near(work, n, grid.w, p, paint) {
         return from;
     }
-    let border = on_edge(p, grid.h, grid.w);
+    let border = grid.on_edge(p);
     let steps = grid.near.steps();
     let mut end = from;
     for (s, offset) in OFFSETS8.iter().enumerate() {

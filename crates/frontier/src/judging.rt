@@ -3,19 +3,19 @@ ghost use Rattle.std.specs.Prelude.{◌≡◌, true, ℕ, ◌≤◌, ◌<◌, Ma
 ghost use Rattle.grid.specs.Planes.{plane};
 ghost use Rattle.verdicts.specs.Steps.{area_of, adjoins, landing, OneStep};
 ghost use Rattle.verdicts.specs.Groups.{Group, GroupedSheet};
-ghost use Rattle.verdicts.specs.Judging.{rule_of};
+ghost use Rattle.verdicts.specs.Judges.{rule_by};
 ghost use Rattle.frontier.specs.Judging.{Noted, Stage, Met, Small, Around, AroundLogged};
 
 use crate::regions::{set_region, small_region};
-use grid::{Grid, Move, OFFSETS8, on_edge, reached};
+use grid::{Grid, Move, OFFSETS8};
 use verdicts::target::Verdict;
 use verdicts::{Judge, region_span};
 
 // The region with the label at + 1 is decided, if it can be: frozen at once, or logged at `end` to be repainted. The log's end then.
-pub fn judge_region(work: &mut [u32], judge: Judge, at: usize, end: usize) -> usize
-    requires stage { Stage (rule_of judge.grid judge.by judge.palette.now) judge.grid judge.by.k end work.old }
-    requires group { Group (area_of judge.grid) work.old at }
-    ensures { Noted (rule_of judge.entry.grid judge.entry.by judge.entry.palette.now) (area_of judge.entry.grid) at end work.old work.new result }
+pub fn judge_region(work: &mut [u32], judge: &Judge, at: usize, end: usize) -> usize
+    requires stage { Stage (rule_by judge.now) judge.now.grid judge.now.by.k end work.old }
+    requires group { Group (area_of judge.now.grid) work.old at }
+    ensures { Noted (rule_by judge.now) (area_of judge.now.grid) at end work.old work.new result }
 {
     let n = judge.grid.h * judge.grid.w;
     let verdict = judge.verdict(work, at);
@@ -35,10 +35,10 @@ pub fn judge_region(work: &mut [u32], judge: Judge, at: usize, end: usize) -> us
 }
 
 // The first `count` groups are judged. The log's end then.
-pub fn judge_all(work: &mut [u32], judge: Judge, count: usize) -> usize
-    requires stage { Stage (rule_of judge.grid judge.by judge.palette.now) judge.grid judge.by.k 0 work.old }
-    requires by_index { (at : ℕ) → at < count → Group (area_of judge.grid) work.old at }
-    ensures { Met (rule_of judge.entry.grid judge.entry.by judge.entry.palette.now) judge.entry.grid judge.entry.by.k (λ l. l < count) work.old work.new 0 result }
+pub fn judge_all(work: &mut [u32], judge: &Judge, count: usize) -> usize
+    requires stage { Stage (rule_by judge.now) judge.now.grid judge.now.by.k 0 work.old }
+    requires by_index { (at : ℕ) → at < count → Group (area_of judge.now.grid) work.old at }
+    ensures { Met (rule_by judge.now) judge.now.grid judge.now.by.k (λ l. l < count) work.old work.new 0 result }
 {
     let mut end = 0;
     for at in 0..count {
@@ -52,17 +52,17 @@ fn small_found(work: &[u32], grid: Grid, step: Move) -> Option<usize>
     requires { GroupedSheet grid work.now × OneStep grid step }
     ensures { MatchOption result ((at : ℕ) → Small (area_of grid) work.now (λ q. landing grid step ≡ Some q) at → ⊥) (Small (area_of grid) work.now (λ q. landing grid step ≡ Some q)) }
 {
-    let q = reached(step.p, step.dy, step.dx, step.border, grid.h, grid.w)?;
+    let q = grid.reached(step)?;
     small_region(work, grid.h * grid.w, q)
 }
 
 // The groups beside the place p are judged, if they are small.
-fn judge_beside(work: &mut [u32], judge: Judge, p: usize, from: usize) -> usize
-    requires stage { Stage (rule_of judge.grid judge.by judge.palette.now) judge.grid judge.by.k from work.old }
-    requires p_bound { p < area_of judge.grid }
-    ensures { Met (rule_of judge.entry.grid judge.entry.by judge.entry.palette.now) judge.entry.grid judge.entry.by.k (Small (area_of judge.entry.grid) work.old (λ q. adjoins judge.entry.grid p q ≡ true)) work.old work.new from result }
+fn judge_beside(work: &mut [u32], judge: &Judge, p: usize, from: usize) -> usize
+    requires stage { Stage (rule_by judge.now) judge.now.grid judge.now.by.k from work.old }
+    requires p_bound { p < area_of judge.now.grid }
+    ensures { Met (rule_by judge.now) judge.now.grid judge.now.by.k (Small (area_of judge.now.grid) work.old (λ q. adjoins judge.now.grid p q ≡ true)) work.old work.new from result }
 {
-    let border = on_edge(p, judge.grid.h, judge.grid.w);
+    let border = judge.grid.on_edge(p);
     let steps = judge.grid.near.steps();
     let mut end = from;
     for (s, offset) in OFFSETS8.iter().enumerate() {
@@ -78,10 +78,10 @@ fn judge_beside(work: &mut [u32], judge: Judge, p: usize, from: usize) -> usize
 }
 
 // The groups beside the group with the label at + 1 are judged, if they are small.
-fn judge_around(work: &mut [u32], judge: Judge, at: usize, from: usize) -> usize
-    requires stage { Stage (rule_of judge.grid judge.by judge.palette.now) judge.grid judge.by.k from work.old }
-    requires group { Group (area_of judge.grid) work.old at }
-    ensures { Met (rule_of judge.entry.grid judge.entry.by judge.entry.palette.now) judge.entry.grid judge.entry.by.k (Small (area_of judge.entry.grid) work.old (Around judge.entry.grid work.old at)) work.old work.new from result }
+fn judge_around(work: &mut [u32], judge: &Judge, at: usize, from: usize) -> usize
+    requires stage { Stage (rule_by judge.now) judge.now.grid judge.now.by.k from work.old }
+    requires group { Group (area_of judge.now.grid) work.old at }
+    ensures { Met (rule_by judge.now) judge.now.grid judge.now.by.k (Small (area_of judge.now.grid) work.old (Around judge.now.grid work.old at)) work.old work.new from result }
 {
     let n = judge.grid.h * judge.grid.w;
     let span = region_span(work, n, at);
@@ -94,10 +94,10 @@ fn judge_around(work: &mut [u32], judge: Judge, at: usize, from: usize) -> usize
 }
 
 // The groups beside those of the log from `begin` on and before `end` are judged, if they are small.
-pub fn judge_frontier(work: &mut [u32], judge: Judge, begin: usize, end: usize) -> usize
-    requires stage { Stage (rule_of judge.grid judge.by judge.palette.now) judge.grid judge.by.k end work.old }
-    requires by_index { (i : ℕ) → begin ≤ i → i < end → Group (area_of judge.grid) work.old (plane (area_of judge.grid) 7 work.old i) }
-    ensures { Met (rule_of judge.entry.grid judge.entry.by judge.entry.palette.now) judge.entry.grid judge.entry.by.k (Small (area_of judge.entry.grid) work.old (AroundLogged judge.entry.grid work.old begin end)) work.old work.new end result }
+pub fn judge_frontier(work: &mut [u32], judge: &Judge, begin: usize, end: usize) -> usize
+    requires stage { Stage (rule_by judge.now) judge.now.grid judge.now.by.k end work.old }
+    requires by_index { (i : ℕ) → begin ≤ i → i < end → Group (area_of judge.now.grid) work.old (plane (area_of judge.now.grid) 7 work.old i) }
+    ensures { Met (rule_by judge.now) judge.now.grid judge.now.by.k (Small (area_of judge.now.grid) work.old (AroundLogged judge.now.grid work.old begin end)) work.old work.new end result }
 {
     let n = judge.grid.h * judge.grid.w;
     let mut mid = end;

@@ -12,4 +12,3 @@ pub mod Continuing
 pub mod Alike
 pub mod Storing
 pub mod Refusing
-pub mod Ranges

@@ -1,19 +1,17 @@
 -- The rows of `remove_orphans`, and what it answers and leaves. Assumes nothing.
 use Prim.Native.Nat.{ℕ, ◌*◌}
-use mathlib.Core.Path.{◌≡◌, sym, ap, ◌∙◌}
+use mathlib.Core.Path.{◌≡◌, ◌∙◌}
 use mathlib.Core.Bool.{Bool, true, false, ◌&&◌}
 use mathlib.Core.List.{List, []}
 use native.Mathlib.Omega.{arith}
-use lib.IntN.{ℤ, pos, negsuc}
+use lib.IntN.{ℤ, pos}
 use lib.Signed.{le_z}
 use lib.ListN.{take}
-use lib.Seq.{get_or-take}
 use Rattle.std.specs.Prelude.{None, Some, Result, Ok, Err}
 use Rattle.base.specs.declared.Refusal.{Refusal}
 use Rattle.base.specs.declared.Refusal.TheVariants.{NoSuchEntry}
 use Rattle.base.specs.Places.{any}
 use Rattle.base.specs.Refusals.{refusal}
-use Rattle.base.proofs.Counting.{any_same}
 use Rattle.base.proofs.Refusing.{row_hit, row_last, rows_hit, rows_pass, some_unless, none_unless, some_answered, none_answered}
 use Rattle.rules.specs.Regions.{at}
 use Rattle.rules.specs.Sheet.{area, sheet_of, over, needed}
@@ -22,11 +20,6 @@ use Rattle.rules.specs.Rows.{palette_rows, bad_index}
 use Rattle.rules.specs.Entries.{lent_rows, bad_limits, orphans_refusal, orphans_made, orphans_answer, orphans_cells}
 use Rattle.refusals.proofs.Rows.{sheet_room, palette_room}
 use Rattle.orphans.specs.Entry.{Fit}
-
--- a test of the first n cells reads the front of the list alone
-pub in_front : (n k : ℕ) (cells : List ℤ) → any n (λ p. le_z (pos k) (at cells p)) ≡ any n (λ p. le_z (pos k) (at (take n cells) p))
-unfolding at
-in_front n k cells = any_same n _ _ (λ p h. ap (le_z (pos k)) (sym (get_or-take n cells p (negsuc 0) h)))
 
 module _ (c : OrphansCall) where
   -- a cell names no entry, as the code tells it

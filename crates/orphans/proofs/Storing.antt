@@ -109,25 +109,25 @@ module _ (rule : Rule) (symm : Symmetric rule.adj) (n k passes : ℕ) (e : rule.
 -- ---- as the code has it
 
 -- the grid of a sheet, with steps to all eight neighbours
-abbrev grid_of : ℕ → ℕ → Grid
-grid_of h w = record { h = h; w = w; near = Eight }
+abbrev grid_of : (h w : ℕ) → (h ≤ 514) × (w ≤ 514) → Grid
+grid_of h w range = record { h = h; w = w; near = Eight; range = range }
 
 -- what its cleaning goes by
 abbrev criteria : ℕ → ℕ → Float → Criteria
 criteria k limit reach = record { k = k; limit = limit; max_delta = reach }
 
 -- the rule of the planes is the rule on a sheet
-rule-is : (h w limit : ℕ) (palette : List Float) (k : ℕ) (region : ℤ) (reach : Float) → pos limit ≡ region → rule_of (grid_of h w) (criteria k limit reach) palette ≡ rule_on (h * w) w (palette_of palette k) (limits_at region reach)
+rule-is : (h w limit : ℕ) (range : (h ≤ 514) × (w ≤ 514)) (palette : List Float) (k : ℕ) (region : ℤ) (reach : Float) → pos limit ≡ region → rule_of (grid_of h w range) (criteria k limit reach) palette ≡ rule_on (h * w) w (palette_of palette k) (limits_at region reach)
 unfolding rule_of rule_on entry_distance colour neighbours
-rule-is h w limit palette k region reach e = rw e
+rule-is h w limit range palette k region reach e = rw e
 
-not_below : (z : ℤ) → lt_z z (pos 2) ≡ false → le_z (pos 2) z ≡ true
-not_below (pos i) e = let l = no_leb {m = suc i} {n = 2} e in yes_leb {m = 2} {n = i} (omega arith)
-not_below (negsuc i) e = clash refl e
+below_two : (z : ℤ) → le_z (pos 2) z ≡ false → lt_z z (pos 2) ≡ true
+below_two (pos i) e = let l = no_leb {m = 2} {n = i} e in yes_leb {m = suc i} {n = 2} (omega arith)
+below_two (negsuc i) e = refl
 
-pub not_negative_lem : (z : ℤ) → lt_z z (pos 2) ≡ false → T (non_neg z)
+pub not_negative_lem : (z : ℤ) → le_z (pos 2) z ≡ true → T (non_neg z)
 not_negative_lem (pos i) e = tt
-not_negative_lem (negsuc i) e = clash refl e
+not_negative_lem (negsuc i) e = clash e refl
 
 paint_below : (k : ℕ) (z : ℤ) → le_z (pos k) z ≡ false → paint_of z ≤ k
 unfolding paint_of
@@ -140,12 +140,12 @@ front cells h w l = length-take-le (h * w) cells l
 
 module _ {cells : List ℤ} {h w : ℕ} {palette : List Float} {k : ℕ} {region : ℤ} {work : ℕ} (fit : Fit cells h w palette k region work) where
   -- once regions can be small, the planes that the sheet is loaded to have indices below k
-  pub loaded_known : lt_z region (pos 2) ≡ false → (a : List ℕ) → Painted (take (h * w) cells) (h * w) a → Indexed (h * w) k a
+  pub loaded_known : le_z (pos 2) region ≡ true → (a : List ℕ) → Painted (take (h * w) cells) (h * w) a → Indexed (h * w) k a
   unfolding bad_index sheet_of area
-  loaded_known low a painted = record {
+  loaded_known small a painted = record {
     few = fit.entries;
     below = λ p l. rw (painted.paint p l) (paint_below k (at (take (h * w) cells) p)
-        (any_no (h * w) (λ q. le_z (pos k) (at (take (h * w) cells) q)) (rw (not_below region low) at fit.known) p l));
+        (any_no (h * w) (λ q. le_z (pos k) (at (take (h * w) cells) q)) (rw small at fit.known) p l));
   }
 
   module _ (passes : ℕ) (reach : Float) where
@@ -156,10 +156,10 @@ module _ {cells : List ℤ} {h w : ℕ} {palette : List Float} {k : ℕ} {region
     cleaned_to = clean_sheet passes (palette_of palette k) (limits_at region reach) (sheet_of cells h w)
 
     -- no region can be small
-    pub none_cleaned : lt_z region (pos 2) ≡ true → (0 ≡ cleaned_to.passes) × (cells ≡ over cleaned_to.sheet.cells cells)
+    pub none_cleaned : le_z (pos 2) region ≡ false → (0 ≡ cleaned_to.passes) × (cells ≡ over cleaned_to.sheet.cells cells)
     unfolding clean_sheet rule_for rule_on sheet_of area over fresh
-    none_cleaned low =
-        let t = limit_one rule (eight_symmetric w) low (take (h * w) cells) (front cells h w fit.reads) passes in (
+    none_cleaned none =
+        let t = limit_one rule (eight_symmetric w) (below_two region none) (take (h * w) cells) (front cells h w fit.reads) passes in (
           ap (λ (c : Cleaned). c.count) (sym t),
           whole ∙ ap (λ (c : Cleaned). over c.state.cells cells) (sym t),
         )
@@ -168,13 +168,13 @@ module _ {cells : List ℤ} {h w : ℕ} {palette : List Float} {k : ℕ} {region
         whole = sym (ap (λ (m : ℕ). take (h * w) cells ++ drop m cells) (front cells h w fit.reads) ∙ take-append-drop (h * w) cells)
 
     -- the sheet was loaded to the planes a, cleaned to b and stored
-    pub all_cleaned : (limit : ℕ) → pos limit ≡ region → (a b : List ℕ) (count : ℕ) → Painted (take (h * w) cells) (h * w) a →
-        CleanedTo (clean (rule_of (grid_of h w) (criteria k limit reach) palette) passes (fresh (rule_of (grid_of h w) (criteria k limit reach) palette) (cells_of (h * w) a))) (h * w) k a b count →
+    pub all_cleaned : (range : (h ≤ 514) × (w ≤ 514)) (limit : ℕ) → pos limit ≡ region → (a b : List ℕ) (count : ℕ) → Painted (take (h * w) cells) (h * w) a →
+        CleanedTo (clean (rule_of (grid_of h w range) (criteria k limit reach) palette) passes (fresh (rule_of (grid_of h w range) (criteria k limit reach) palette) (cells_of (h * w) a))) (h * w) k a b count →
         (count ≡ cleaned_to.passes) × (filled (h * w) (λ i. repaint (plane (h * w) 0 b i) (at cells i)) cells ≡ over cleaned_to.sheet.cells cells)
     unfolding clean_sheet rule_for rule_on sheet_of area filled at
-    all_cleaned limit e a b count painted u =
+    all_cleaned range limit e a b count painted u =
         let v : CleanedTo (clean rule passes (fresh rule (cells_of (h * w) a))) (h * w) k a b count =
-        subst (λ (r : Rule). CleanedTo (clean r passes (fresh r (cells_of (h * w) a))) (h * w) k a b count) (rule-is h w limit palette k region reach e) u in (
+        subst (λ (r : Rule). CleanedTo (clean r passes (fresh r (cells_of (h * w) a))) (h * w) k a b count) (rule-is h w limit range palette k region reach e) u in (
           stored-count rule (eight_symmetric w) (h * w) k passes refl (take (h * w) cells) a b count painted v,
           ap (λ (l : List ℤ). l ++ drop (h * w) cells)
               (table_same (h * w) _ _ (negsuc 0) (λ i l. ap (repaint (plane (h * w) 0 b i)) (sym (get_or-take (h * w) cells i (negsuc 0) l))))

@@ -15,7 +15,8 @@ ghost use Rattle.rules.specs.Sheet.{lent_sheet, sheet_of, over};
 ghost use Rattle.grid.specs.Planes.{cells_of};
 ghost use Rattle.labels.specs.Filling.{Sized};
 ghost use Rattle.verdicts.specs.Steps.{area_of};
-ghost use Rattle.verdicts.specs.Judging.{rule_of, Indexed};
+ghost use Rattle.verdicts.specs.Judging.{Indexed};
+ghost use Rattle.verdicts.specs.Judges.{rule_by};
 ghost use Rattle.orphans.specs.Entry.{Fit};
 ghost use Rattle.orphans.specs.Passing.{CleanedTo};
 
@@ -24,10 +25,10 @@ use crate::rows::{bad_index, bad_limits};
 use crate::starting::{any_small, wipe};
 use base::Refusal;
 use frontier::growing::mark_large;
-use grid::tile::{load, store};
+use grid::tile::Tile;
 use grid::{Grid, Neighbourhood};
 use labels::label::label_planes;
-use refusals::{palette_refusal, sheet_refusal};
+use refusals::{palette_refusal, sheet_refusal, some_small};
 use rules::{Limits, Size};
 use verdicts::{Criteria, Judge};
 
@@ -35,7 +36,7 @@ use verdicts::{Criteria, Judge};
 pub fn clean_planes(work: &mut [u32], judge: Judge, max_passes: u32) -> u32
     requires sized { Sized judge.grid.h judge.grid.w work.old }
     requires indexed { Indexed (area_of judge.grid) judge.by.k work.old }
-    ensures { CleanedTo (clean (rule_of judge.entry.grid judge.entry.by judge.entry.palette.now) max_passes (fresh (rule_of judge.entry.grid judge.entry.by judge.entry.palette.now) (cells_of (area_of judge.entry.grid) work.old))) (area_of judge.entry.grid) judge.entry.by.k work.old work.new result }
+    ensures { CleanedTo (clean (rule_by judge.entry) max_passes (fresh (rule_by judge.entry) (cells_of (area_of judge.entry.grid) work.old))) (area_of judge.entry.grid) judge.entry.by.k work.old work.new result }
 {
     let n = judge.grid.h * judge.grid.w;
     wipe(work, 4 * n, n);
@@ -49,12 +50,12 @@ pub fn clean_planes(work: &mut [u32], judge: Judge, max_passes: u32) -> u32
     }
     wipe(work, 5 * n, n + count);
     mark_large(work, n, count, judge.by.limit);
-    let end = first_pass(work, judge, count);
+    let end = first_pass(work, &judge, count);
     if end == 0 {
         return 0;
     }
     let left = max_passes - 1;
-    let more = later_passes(work, judge, end, left);
+    let more = later_passes(work, &judge, end, left);
     more + 1
 }
 
@@ -72,15 +73,14 @@ pub fn clean_sheet(
     ensures value { result ≡ (clean_sheet max_passes (palette_of palette.now k) limits (sheet_of cells.old size.h size.w)).passes }
     ensures cells_after { cells.new ≡ over (clean_sheet max_passes (palette_of palette.now k) limits (sheet_of cells.old size.h size.w)).sheet.cells cells.old }
 {
-    let min_region = limits.region;
-    let none_small = min_region < 2;
-    if none_small {
+    if !some_small(limits.region) {
         return 0;
     }
     let h = size.h;
     let w = size.w;
-    let limit = min_region as u32;
-    load(cells, work, 0, w, h, w);
+    let limit = limits.region as u32;
+    let tile = Tile::whole(h, w);
+    tile.load(cells, work);
     let near = Neighbourhood::Eight;
     let by = Criteria {
         k,
@@ -89,7 +89,7 @@ pub fn clean_sheet(
     };
     let grid = Grid { h, w, near };
     let count = clean_planes(work, Judge { grid, palette, by }, max_passes);
-    store(work, cells, 0, w, h, w);
+    tile.store(work, cells);
     count
 }
 

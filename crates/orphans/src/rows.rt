@@ -5,7 +5,7 @@ ghost use Rattle.base.specs.Places.{any};
 ghost use Rattle.rules.specs.Regions.{at};
 ghost use Rattle.rules.specs.Palette.{between};
 
-use refusals::limit_in_range;
+use refusals::{limit_in_range, some_small};
 
 // Row 6: the colour limit is NaN or out of range, or there are too many passes.
 pub fn bad_limits(max_delta: f64, max_passes: u32) -> bool
@@ -19,6 +19,6 @@ pub fn bad_index(cells: &[i32], n: usize, k: usize, region: i32) -> bool
     requires { (k ≤ 256) × (n ≤ length cells.now) }
     ensures { result ≡ (le_z (pos 2) region && any n (λ p. le_z (pos k) (at (take n cells.now) p))) }
 {
-    let some_small = 2 <= region;
-    some_small && refusals::bad_index(cells, n, k)
+    let front = &cells[..n];
+    some_small(region) && refusals::bad_index(front, k)
 }

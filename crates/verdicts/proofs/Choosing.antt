@@ -17,12 +17,13 @@ use lib.ListN.{length, take, get_or, replicate, get_or-replicate}
 use Rattle.std.proofs.lemmas.Grind.{common_steps}
 use Rattle.base.specs.Places.{greatest}
 use Rattle.base.proofs.Counting.{case, clash, left, right, both, same_test, eqb_yes, yes_eqb, leb_yes, yes_leb, no_leb, count_some, count_yes, greatest_above, greatest-is}
+use Rattle.color.specs.declared.least.Least.{Least}
+use Rattle.color.specs.Least.{lowered}
 use Rattle.rules.specs.Palette.{first_least}
 use Rattle.rules.specs.Regions.{at, index}
 use Rattle.rules.specs.Pass.{Rule, marked, votes, most, frequent, judged}
-use Rattle.verdicts.specs.declared.target.Candidate.{Candidate}
 use Rattle.verdicts.specs.declared.target.Verdict.TheVariants.{Stays}
-use Rattle.verdicts.specs.Choice.{peak, candidate, nearer, nearest, verdict_on, number, decision, choice}
+use Rattle.verdicts.specs.Choice.{peak, candidate, nearest, verdict_on, number, decision, choice}
 use Rattle.verdicts.specs.Judging.{code}
 
 -- ---- the loops
@@ -45,25 +46,25 @@ module _ (far : ℕ → Float) (counts : List ℕ) (m : ℕ) where
   unfolding nearest
   nearest-start = refl
 
-  pub nearest-more : (c : ℕ) (t : Option Candidate) → t ≡ nearest far counts m c → get_or counts c 0 ≡ m → Some (nearer t (candidate c (far c))) ≡ nearest far counts m (c + 1)
+  pub nearest-more : (c : ℕ) (t : Option Least) → t ≡ nearest far counts m c → get_or counts c 0 ≡ m → Some (lowered t (candidate c (far c))) ≡ nearest far counts m (c + 1)
   unfolding nearest
   nearest-more c t e y = rw (add-one c, eq-eqb (get_or counts c 0) m y, e)
 
-  pub nearest-same : (c : ℕ) (t : Option Candidate) → t ≡ nearest far counts m c → (get_or counts c 0 ≡ m → ⊥) → t ≡ nearest far counts m (c + 1)
+  pub nearest-same : (c : ℕ) (t : Option Least) → t ≡ nearest far counts m c → (get_or counts c 0 ≡ m → ⊥) → t ≡ nearest far counts m (c + 1)
   unfolding nearest
   nearest-same c t e z = rw (add-one c, ne_eqb (get_or counts c 0) m z) e
 
-  nearer-below : (t : Option Candidate) (c : ℕ) (d : Float) → ((x : Candidate) → t ≡ Some x → x.index < c) → (nearer t (candidate c d)).index < suc c
-  unfolding nearer candidate
+  nearer-below : (t : Option Least) (c : ℕ) (d : Float) → ((x : Least) → t ≡ Some x → x.at < c) → (lowered t (candidate c d)).at < suc c
+  unfolding lowered candidate
   nearer-below None c d f = omega arith
-  nearer-below (Some x) c d f = case (lt d x.distance) (λ u. rw u (omega arith)) (λ u. rw u (le_step (f x refl)))
+  nearer-below (Some x) c d f = case (lt d x.value) (λ u. rw u (omega arith)) (λ u. rw u (le_step (f x refl)))
 
-  pub nearest-below : (k : ℕ) (b : Candidate) → nearest far counts m k ≡ Some b → b.index < k
+  pub nearest-below : (k : ℕ) (b : Least) → nearest far counts m k ≡ Some b → b.at < k
   unfolding nearest
   nearest-below zero b e = absurd (cc)
   nearest-below (suc k) b e =
       case (eqb (get_or counts k 0) m)
-      (λ y. let z : nearer (nearest far counts m k) (candidate k (far k)) ≡ b = (let h : Some (nearer (nearest far counts m k) (candidate k (far k))) ≡ Some b = rw y at e in cc) in
+      (λ y. let z : lowered (nearest far counts m k) (candidate k (far k)) ≡ b = (let h : Some (lowered (nearest far counts m k) (candidate k (far k))) ≡ Some b = rw y at e in cc) in
       rw (← z) (nearer-below (nearest far counts m k) k (far k) (λ x h. nearest-below k x h)))
       (λ z. le_step (nearest-below k b (rw z at e)))
 
@@ -72,11 +73,11 @@ module _ (far : ℕ → Float) (counts : List ℕ) (k m : ℕ) (reach : Float) (
   unfolding choice
   choice_none z = rw (eq-eqb (peak counts k) 0 (sym e ∙ z))
 
-  pub choice_some : (m ≡ 0 → ⊥) → (t : Option Candidate) → t ≡ nearest far counts m k → decision t reach ≡ choice far counts k reach
+  pub choice_some : (m ≡ 0 → ⊥) → (t : Option Least) → t ≡ nearest far counts m k → decision t reach ≡ choice far counts k reach
   unfolding choice
   choice_some z t h =
       rw (ne_eqb (peak counts k) 0 (λ y. z (e ∙ y)))
-      (ap (λ (x : Option Candidate). decision x reach) h ∙ ap (λ (x : ℕ). decision (nearest far counts x k) reach) e)
+      (ap (λ (x : Option Least). decision x reach) h ∙ ap (λ (x : ℕ). decision (nearest far counts x k) reach) e)
 
 -- before the first vote no index has any
 pub peak_none : (k : ℕ) → k ≤ 256 → 0 ≡ peak (replicate 256 0) k
@@ -92,7 +93,7 @@ decision_none reach = refl
 -- ---- the rules' choice
 
 -- a target of the rules with its distance
-as_target : (ℕ → Float) → Option ℕ → Option Candidate
+as_target : (ℕ → Float) → Option ℕ → Option Least
 as_target far None = None
 as_target far (Some c) = Some (candidate c (far c))
 
@@ -137,8 +138,8 @@ module _ (rule : Rule) (cells : List ℤ) (voters : List Bool) (own : ℕ) (coun
           omega (arith, w.3))
           (greatest-is rule.places (marked voters) (λ q. votes rule cells voters (index (at cells q))))
 
-  choose_nearer : (b : Bool) (c : ℕ) (o : Option ℕ) → cond b (Some (nearer (as_target far o) (candidate c (far c)))) (as_target far o) ≡ as_target far (cond b (elim o [ None ↦ Some c | Some i ↦ Some (cond (lt (far c) (far i)) c i) ]) o)
-  unfolding nearer candidate as_target
+  choose_nearer : (b : Bool) (c : ℕ) (o : Option ℕ) → cond b (Some (lowered (as_target far o) (candidate c (far c)))) (as_target far o) ≡ as_target far (cond b (elim o [ None ↦ Some c | Some i ↦ Some (cond (lt (far c) (far i)) c i) ]) o)
+  unfolding lowered candidate as_target
   choose_nearer false c o = refl
   choose_nearer true c None = refl
   choose_nearer true c (Some b) = case (lt (far c) (far b)) (λ y. rw y) (λ z. rw z)
@@ -190,7 +191,7 @@ module _ (rule : Rule) (cells : List ℤ) (voters : List Bool) (own : ℕ) (coun
       (λ y. let z : most rule cells voters ≡ 0 → ⊥ = (λ e. clash (yes_eqb {m = most rule cells voters} {n = 0} e) y) in
       ap number (sym (choice_some far counts k (peak counts k) rule.reach refl (λ e. z (sym peak-most ∙ e)) (nearest far counts (peak counts k) k) refl))
       ∙ ap (λ (x : ℕ). number (decision (nearest far counts x k) rule.reach)) peak-most
-      ∙ ap (λ (t : Option Candidate). number (decision t rule.reach)) (nearest-target z k (omega arith))
+      ∙ ap (λ (t : Option Least). number (decision t rule.reach)) (nearest-target z k (omega arith))
       ∙ decision-is (below k))
 
 -- ---- all votes are for one index

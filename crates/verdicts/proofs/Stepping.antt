@@ -1,6 +1,6 @@
 -- A step of one place at most: as the code hands it on, and where it leads. Assumes nothing.
 use Prim.Native.Nat.{ℕ, ◌/◌, ◌%◌, ◌<◌}
-use mathlib.Core.Path.{◌≡◌, refl, ap₂, ◌∙◌}
+use mathlib.Core.Path.{◌≡◌, ap₂}
 use mathlib.Core.Bool.{Bool}
 use lib.IntN.{ℤ}
 use mir.Syntax.{w32}
@@ -8,24 +8,14 @@ use mir.Val.{to_z, of_z}
 use Rattle.rules.specs.Grid.{on_edge, step_to}
 use Rattle.grid.specs.declared.Grid.{Grid}
 use Rattle.grid.specs.declared.Move.{Move}
-use Rattle.std.specs.Prelude.{Option}
-use Rattle.grid.specs.Steps.{Single, back, stay, on, steps_of}
+use Rattle.grid.specs.Steps.{steps_of}
+use Rattle.grid.proofs.Signs.{single_is}
 use Rattle.grid.proofs.Places.{rows_of, cols_of, hop, step_few, offset_single, off_border}
 use Rattle.verdicts.specs.Steps.{area_of, landing, OneStep}
 
 -- a number of places as a call hands it on
 abbrev handed : ℤ → ℤ
 handed d = to_z w32 (of_z w32 d)
-
-handed-same : {d : ℤ} → Single d → handed d ≡ d
-handed-same back = refl
-handed-same stay = refl
-handed-same on = refl
-
-module _ {grid : Grid} {step : Move} (ok : OneStep grid step) where
-  -- what `reached` answers
-  pub step_finds : {r : Option ℕ} → r ≡ step_to grid.h grid.w (step.p / grid.w) (step.p % grid.w) (handed step.dy) (handed step.dx) → r ≡ landing grid step
-  step_finds e = e ∙ ap₂ (step_to grid.h grid.w (step.p / grid.w) (step.p % grid.w)) (handed-same ok.rows) (handed-same ok.cols)
 
 -- ---- a walk over the steps from a place
 
@@ -44,8 +34,8 @@ unfolding hop
 walk_turn {grid} {p = p} {s = s} inside edge turn =
     let few = step_few grid.near s turn in
     let o = offset_single s few in
-    let rows = handed-same o.0 in
-    let cols = handed-same o.1 in
+    let rows = single_is o.0 in
+    let cols = single_is o.1 in
     record {
       few = few;
       one = record { place = inside; rows = rw rows o.0; cols = rw cols o.1; within = off_border grid.h grid.w p inside edge };

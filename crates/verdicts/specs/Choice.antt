@@ -2,8 +2,9 @@
 use Rattle.std.specs.Prelude.{ℕ, zero, suc, ◌+◌, Bool, true, cond, List, eqb, Float, get_or, Option, Some, None}
 use Rattle.std.specs.Float.Ieee.{lt}
 use Rattle.base.specs.Places.{greatest}
+use Rattle.color.specs.declared.least.Least.{Least}
 use Rattle.color.specs.Lab.{entry, distance}
-use Rattle.verdicts.specs.declared.target.Candidate.{Candidate}
+use Rattle.color.specs.Least.{lowered}
 use Rattle.verdicts.specs.declared.target.Verdict.{Verdict}
 use Rattle.verdicts.specs.declared.target.Verdict.TheVariants.{Stays, Frozen, Takes}
 
@@ -16,19 +17,14 @@ unfoldable pub peak : List ℕ → ℕ → ℕ
 peak counts k = greatest k (λ c. true) (λ c. get_or counts c 0)
 
 -- the index c at the distance d
-unfoldable pub candidate : ℕ → Float → Candidate
-candidate c d = record { index = c; distance = d }
-
--- a candidate takes the place of an earlier one if it is nearer
-unfoldable pub nearer : Option Candidate → Candidate → Candidate
-nearer None next = next
-nearer (Some b) next = cond (lt next.distance b.distance) next b
+unfoldable pub candidate : ℕ → Float → Least
+candidate c d = record { at = c; value = d }
 
 -- of the indices below k with m votes the nearest, the lowest of several; far gives their distances
-unfoldable pub nearest : (ℕ → Float) → List ℕ → ℕ → ℕ → Option Candidate
+unfoldable pub nearest : (ℕ → Float) → List ℕ → ℕ → ℕ → Option Least
 nearest far counts m zero = None
 nearest far counts m (suc c) =
-    cond (eqb (get_or counts c 0) m) (Some (nearer (nearest far counts m c) (candidate c (far c)))) (nearest far counts m c)
+    cond (eqb (get_or counts c 0) m) (Some (lowered (nearest far counts m c) (candidate c (far c)))) (nearest far counts m c)
 
 -- a verdict as the number that the work area holds: 0 it stays, 1 it is frozen, c + 2 it takes the index c
 unfoldable pub number : Verdict → ℕ
@@ -41,9 +37,9 @@ unfoldable pub verdict_on : ℕ → Bool → Verdict
 verdict_on c near = cond near (Takes c) Frozen
 
 -- what a target gives a region
-unfoldable pub decision : Option Candidate → Float → Verdict
+unfoldable pub decision : Option Least → Float → Verdict
 decision None reach = Stays
-decision (Some b) reach = verdict_on b.index (lt b.distance reach)
+decision (Some b) reach = verdict_on b.at (lt b.value reach)
 
 -- the same from the votes: with none the region stays
 unfoldable pub choice : (ℕ → Float) → List ℕ → ℕ → Float → Verdict

@@ -4,3 +4,4 @@ pub mod Groups
 pub mod Polling
 pub mod Agreeing
 pub mod Judging
+pub mod Judges

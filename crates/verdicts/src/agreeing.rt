@@ -6,7 +6,7 @@ ghost use Rattle.verdicts.specs.Groups.{Stretch, GroupedSheet};
 ghost use Rattle.verdicts.specs.Agreeing.{joined, asked, asked_beside, asked_around, one_paint};
 
 use crate::large::Span;
-use grid::{Grid, Move, OFFSETS8, on_edge, reached};
+use grid::{Grid, Move, OFFSETS8};
 
 // What the cells asked so far have: none is large, all large ones have one paint, or they have several.
 #[derive(Clone, Copy, Debug, PartialEq, Eq)]
@@ -34,7 +34,7 @@ fn ask_step(work: &[u32], grid: Grid, step: Move, so_far: Agreement) -> Agreemen
     ensures { result ≡ asked (area_of grid) work.now (landing grid step) so_far }
 {
     let n = grid.h * grid.w;
-    match reached(step.p, step.dy, step.dx, step.border, grid.h, grid.w) {
+    match grid.reached(step) {
         Some(q) if work[5 * n + q] != 0 => join(so_far, work[q]),
         _ => so_far,
     }
@@ -45,7 +45,7 @@ fn ask_beside(work: &[u32], grid: Grid, p: usize, so_far: Agreement) -> Agreemen
     requires { GroupedSheet grid work.now × (p < area_of grid) }
     ensures { result ≡ asked_beside grid work.now p (steps_of grid.near) so_far }
 {
-    let border = on_edge(p, grid.h, grid.w);
+    let border = grid.on_edge(p);
     let steps = grid.near.steps();
     let mut found = so_far;
     for (s, offset) in OFFSETS8.iter().enumerate() {

@@ -16,7 +16,7 @@ ghost use Rattle.verdicts.specs.Judging.{rule_of, Indexed, Unmarked, Sound, Judg
 use crate::agreeing::agreed;
 use crate::large::large_around;
 use crate::target::{Verdict, choice, only_choice};
-use crate::voting::poll;
+use crate::voting::{Mark, poll};
 use grid::Grid;
 pub use large::{Span, region_size, region_span};
 
@@ -39,11 +39,11 @@ pub struct Judge<'a> {
 
 impl Judge<'_> {
     // The verdict on the region with the label at + 1. Votes are marked in plane 5.
-    pub fn verdict(self, work: &mut [u32], at: usize) -> Verdict
-        requires grouped_sheet { GroupedSheet self.grid work.old × Group (area_of self.grid) work.old at }
-        requires indexed { Indexed (area_of self.grid) self.by.k work.old }
-        requires sound { Sound (rule_of self.grid self.by self.palette.now) (area_of self.grid) work.old × Unmarked (area_of self.grid) work.old at }
-        ensures { Judged (rule_of self.entry.grid self.entry.by self.entry.palette.now) (area_of self.entry.grid) at work.old work.new (number result) }
+    pub fn verdict(&self, work: &mut [u32], at: usize) -> Verdict
+        requires grouped_sheet { GroupedSheet self.now.grid work.old × Group (area_of self.now.grid) work.old at }
+        requires indexed { Indexed (area_of self.now.grid) self.now.by.k work.old }
+        requires sound { Sound (rule_of self.now.grid self.now.by self.now.palette.now) (area_of self.now.grid) work.old × Unmarked (area_of self.now.grid) work.old at }
+        ensures { Judged (rule_of self.now.grid self.now.by self.now.palette.now) (area_of self.now.grid) at work.old work.new (number result) }
     {
         let n = self.grid.h * self.grid.w;
         let decided = work[6 * n + at] != 0;
@@ -61,9 +61,9 @@ impl Judge<'_> {
             let c = paint as usize - 1;
             return only_choice(self, own, c);
         }
-        let mark = at as u32 + 2;
+        let word = at as u32 + 2;
         let mut counts = [0u32; 256];
-        poll(work, self.grid, span, mark, &mut counts);
+        poll(work, self.grid, span, Mark { word }, &mut counts);
         choice(self, &counts, own)
     }
 }

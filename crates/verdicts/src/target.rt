@@ -1,16 +1,10 @@
 // Which index a region takes, from the votes that each index has.
 ghost use Rattle.std.specs.Prelude.{◌≡◌, ◌≤◌, ◌<◌};
-ghost use Rattle.verdicts.specs.Choice.{entry_distance, candidate, peak, nearer, nearest, verdict_on, number, decision, choice};
+ghost use Rattle.verdicts.specs.Choice.{entry_distance, candidate, peak, nearest, verdict_on, number, decision, choice};
 
 use crate::Judge;
 use color::cielab::{closer_than, distance, entry};
-
-// An index that a region may take, and its distance from the region's own.
-#[derive(Clone, Copy)]
-pub struct Candidate {
-    pub index: usize,
-    pub distance: f64,
-}
+use color::least::{Least, lower};
 
 // What becomes of a region: it stays, is frozen, or takes an index.
 #[derive(Clone, Copy, Debug, PartialEq, Eq)]
@@ -46,29 +40,18 @@ fn most(counts: &[u32; 256], k: usize) -> u32
     best
 }
 
-// A candidate takes the place of an earlier one if it is nearer.
-#[tactic(auto, unfolding(crate::specs::Choice::nearer))]
-fn nearer(best: Option<Candidate>, next: Candidate) -> Candidate
-    ensures { result ≡ nearer best next }
-{
-    let Some(earlier) = best else {
-        return next;
-    };
-    let closer = next.distance < earlier.distance;
-    if closer { next } else { earlier }
-}
-
 // Of the indices in use with m votes the nearest to `own`, the lowest of several.
-fn nearest(judge: Judge, counts: &[u32; 256], m: u32, own: usize) -> Option<Candidate>
-    requires { (judge.by.k ≤ 256) × (own < judge.by.k) }
-    ensures { result ≡ nearest (entry_distance judge.entry.palette.now own) counts.now m judge.entry.by.k }
+fn nearest(judge: &Judge, counts: &[u32; 256], m: u32, own: usize) -> Option<Least>
+    requires { (judge.now.by.k ≤ 256) × (own < judge.now.by.k) }
+    ensures { result ≡ nearest (entry_distance judge.now.palette.now own) counts.now m judge.now.by.k }
 {
     let from = entry(judge.palette, own);
     let mut best = None;
     for (index, votes) in counts[..judge.by.k].iter().enumerate() {
         if *votes == m {
-            let distance = distance(from, entry(judge.palette, index));
-            best = Some(nearer(best, Candidate { index, distance }));
+            let value = distance(from, entry(judge.palette, index));
+            let next = Least { at: index, value };
+            best = Some(lower(best, next));
         }
     }
     best
@@ -88,9 +71,9 @@ fn decide(c: usize, near: bool) -> Verdict
 }
 
 // What becomes of a region of the index `own` whose votes are all for c.
-pub fn only_choice(judge: Judge, own: usize, c: usize) -> Verdict
+pub fn only_choice(judge: &Judge, own: usize, c: usize) -> Verdict
     requires { (own < 256) × (c < 256) }
-    ensures { result ≡ decision (Some (candidate c (entry_distance judge.entry.palette.now own c))) judge.entry.by.max_delta }
+    ensures { result ≡ decision (Some (candidate c (entry_distance judge.now.palette.now own c))) judge.now.by.max_delta }
 {
     let near = closer_than(
         entry(judge.palette, own),
@@ -101,16 +84,16 @@ pub fn only_choice(judge: Judge, own: usize, c: usize) -> Verdict
 }
 
 // What becomes of a region of the index `own` with these votes.
-pub fn choice(judge: Judge, counts: &[u32; 256], own: usize) -> Verdict
-    requires { (judge.by.k ≤ 256) × (own < judge.by.k) }
-    ensures { result ≡ choice (entry_distance judge.entry.palette.now own) counts.now judge.entry.by.k judge.entry.by.max_delta }
+pub fn choice(judge: &Judge, counts: &[u32; 256], own: usize) -> Verdict
+    requires { (judge.now.by.k ≤ 256) × (own < judge.now.by.k) }
+    ensures { result ≡ choice (entry_distance judge.now.palette.now own) counts.now judge.now.by.k judge.now.by.max_delta }
 {
     let m = most(counts, judge.by.k);
     if m == 0 {
         return Verdict::Stays;
     }
     match nearest(judge, counts, m, own) {
-        Some(target) => decide(target.index, target.distance < judge.by.max_delta),
+        Some(target) => decide(target.at, target.value < judge.by.max_delta),
         None => Verdict::Stays,
     }
 }

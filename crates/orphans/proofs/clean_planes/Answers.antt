@@ -25,7 +25,7 @@ label_planes-t-requires c =
 
 pub any_small-requires : goal.any_small-requires
 any_small-requires c =
-    let u = labelling {by = c.args.judge.by} c.requires.sized c.requires.indexed c.label_planes-t.result c.wipe.ensures c.label_planes-t.ensures.labelled c.label_planes-t.ensures.planes_kept in
+    let u = labelling {grid = c.args.judge.grid} {by = c.args.judge.by} c.requires.sized c.requires.indexed c.label_planes-t.result c.wipe.ensures c.label_planes-t.ensures.labelled c.label_planes-t.ensures.planes_kept in
     let few = area c.args.judge.grid.h c.args.judge.grid.w c.requires.sized.rows c.requires.sized.cols in
     record { planes = record { few = few; room = omega (arith, u.len, c.requires.sized.planes) }; by_index = labelled_groups u }
 
@@ -34,24 +34,24 @@ unfolding rule_of
 returns-then-not-any_small c =
     let j = c.args.judge in
     let rule = rule_of j.grid j.by j.palette.now in
-    let u = labelling {by = c.args.judge.by} c.requires.sized c.requires.indexed c.label_planes-t.result c.wipe.ensures c.label_planes-t.ensures.labelled c.label_planes-t.ensures.planes_kept in
+    let u = labelling {grid = c.args.judge.grid} {by = c.args.judge.by} c.requires.sized c.requires.indexed c.label_planes-t.result c.wipe.ensures c.label_planes-t.ensures.labelled c.label_planes-t.ensures.planes_kept in
     cleaned_still rule (area_of j.grid) j.by.k c.args.max_passes c.args.work.now c.label_planes-t.new.work (labelled_state u rule refl) u.len (omega (arith, c.if-max_passes-eq0.false))
     (passed_still u j.palette.now (sym c.any_small.ensures ∙ c.if-not-any_small.true))
 
 pub wipe-requires-2 : goal.wipe-requires-2
 wipe-requires-2 c =
-    let u = labelling {by = c.args.judge.by} c.requires.sized c.requires.indexed c.label_planes-t.result c.wipe.ensures c.label_planes-t.ensures.labelled c.label_planes-t.ensures.planes_kept in
+    let u = labelling {grid = c.args.judge.grid} {by = c.args.judge.by} c.requires.sized c.requires.indexed c.label_planes-t.result c.wipe.ensures c.label_planes-t.ensures.labelled c.label_planes-t.ensures.planes_kept in
     omega (arith, u.len, labelled-few u, c.requires.sized.planes)
 
 pub mark_large-requires : goal.mark_large-requires
 mark_large-requires c =
-    let u = labelling {by = c.args.judge.by} c.requires.sized c.requires.indexed c.label_planes-t.result c.wipe.ensures c.label_planes-t.ensures.labelled c.label_planes-t.ensures.planes_kept in
+    let u = labelling {grid = c.args.judge.grid} {by = c.args.judge.by} c.requires.sized c.requires.indexed c.label_planes-t.result c.wipe.ensures c.label_planes-t.ensures.labelled c.label_planes-t.ensures.planes_kept in
     let few = area c.args.judge.grid.h c.args.judge.grid.w c.requires.sized.rows c.requires.sized.cols in
     record { planes = record { few = few; room = omega (arith, c.wipe-2.ensures.len, u.len, c.requires.sized.planes) }; by_index = start_groups u c.wipe-2.ensures }
 
 pub first_pass-end-requires : goal.first_pass-end-requires
 first_pass-end-requires c =
-    let u = labelling {by = c.args.judge.by} c.requires.sized c.requires.indexed c.label_planes-t.result c.wipe.ensures c.label_planes-t.ensures.labelled c.label_planes-t.ensures.planes_kept in
+    let u = labelling {grid = c.args.judge.grid} {by = c.args.judge.by} c.requires.sized c.requires.indexed c.label_planes-t.result c.wipe.ensures c.label_planes-t.ensures.labelled c.label_planes-t.ensures.planes_kept in
     at-start u c.wipe-2.ensures c.mark_large.ensures
 
 pub returns-then-end-eq0 : goal.returns-then-end-eq0
@@ -59,7 +59,7 @@ unfolding rule_of
 returns-then-end-eq0 c =
     let j = c.args.judge in
     let rule = rule_of j.grid j.by j.palette.now in
-    let u = labelling {by = c.args.judge.by} c.requires.sized c.requires.indexed c.label_planes-t.result c.wipe.ensures c.label_planes-t.ensures.labelled c.label_planes-t.ensures.planes_kept in
+    let u = labelling {grid = c.args.judge.grid} {by = c.args.judge.by} c.requires.sized c.requires.indexed c.label_planes-t.result c.wipe.ensures c.label_planes-t.ensures.labelled c.label_planes-t.ensures.planes_kept in
     cleaned-first rule j.grid j.by.k c.args.max_passes c.args.work.now c.mark_large.new.work c.first_pass-end.new.work (start_state u c.wipe-2.ensures c.mark_large.ensures rule refl) (start-length u c.wipe-2.ensures c.mark_large.ensures)
     (at-start u c.wipe-2.ensures c.mark_large.ensures).known (omega (arith, c.if-max_passes-eq0.false)) c.first_pass-end.ensures c.if-end-eq0.true
 
@@ -74,6 +74,6 @@ unfolding rule_of
 returns c =
     let j = c.args.judge in
     let rule = rule_of j.grid j.by j.palette.now in
-    let u = labelling {by = c.args.judge.by} c.requires.sized c.requires.indexed c.label_planes-t.result c.wipe.ensures c.label_planes-t.ensures.labelled c.label_planes-t.ensures.planes_kept in
+    let u = labelling {grid = c.args.judge.grid} {by = c.args.judge.by} c.requires.sized c.requires.indexed c.label_planes-t.result c.wipe.ensures c.label_planes-t.ensures.labelled c.label_planes-t.ensures.planes_kept in
     cleaned-more rule j.grid j.by.k c.args.max_passes c.args.work.now c.mark_large.new.work c.first_pass-end.new.work (start_state u c.wipe-2.ensures c.mark_large.ensures rule refl) (start-length u c.wipe-2.ensures c.mark_large.ensures)
     (at-start u c.wipe-2.ensures c.mark_large.ensures).known (omega (arith, c.if-max_passes-eq0.false)) c.first_pass-end.ensures (omega (arith, c.if-end-eq0.false)) c.later_passes-more.ensures.0

@@ -1,20 +1,21 @@
 -- `orphans::clean_sheet`: loaded, cleaned, stored. Assumes nothing.
 use lib.Dec.{T}
-use lib.Signed.{non_neg, lt_z, pos-nat_abs, nat_abs-le}
+use lib.Signed.{non_neg, le_z, pos-nat_abs, nat_abs-le}
 use mir.Syntax.{w32}
 use mir.Val.{Fits, SFits, to_z, of_z}
 use mir.Facts.{to_z-of_z}
-use Rattle.std.proofs.Common.{◌≡◌, ◌*◌, ◌≤◌, false, pos, nat_abs, take, sym, subst, ◌∙◌, rules, arith}
+use Rattle.std.proofs.Common.{◌≡◌, ◌*◌, ◌≤◌, true, false, pos, nat_abs, take, sym, subst, ◌∙◌, rules, arith}
 use Rattle.grid.proofs.Planes.{Painted}
 use Rattle.grid.proofs.Tiles.{whole_tile, load_whole, store_whole}
 use Rattle.orphans.proofs.Storing.{not_negative_lem, loaded_known, none_cleaned, all_cleaned}
 use Rattle.orphans.proofs.clean_sheet.Goals as goal
 
-pub returns-then-none_small : goal.returns-then-none_small
-returns-then-none_small c =
+pub returns-then-not-some_small : goal.returns-then-not-some_small
+returns-then-not-some_small c =
     let known : SFits w32 c.args.limits.region = search rules in
     let back = to_z-of_z {w = w32} {z = c.args.limits.region} known in
-    let r = none_cleaned c.requires c.args.max_passes c.args.limits.colour (rw back at c.if-none_small.true) in
+    let none : c.some_small.result ≡ false = search rules in
+    let r = none_cleaned c.requires c.args.max_passes c.args.limits.colour (rw back at (sym c.some_small.ensures ∙ none)) in
     record { value = r.0; cells_after = r.1 }
 
 pub overflow_cast-limit : goal.overflow_cast-limit
@@ -22,13 +23,14 @@ overflow_cast-limit c =
     let z = c.args.limits.region in
     let known : SFits w32 z = search rules in
     let back = to_z-of_z {w = w32} {z = z} known in
-    let low : lt_z z (pos 2) ≡ false = rw back at c.if-none_small.false in
+    let yes : c.some_small.result ≡ true = search rules in
+    let small : le_z (pos 2) z ≡ true = rw back at (sym c.some_small.ensures ∙ yes) in
     let l : nat_abs z ≤ 2147483648 = nat_abs-le z known.sfits in
-    let p : T (non_neg z) × Fits w32 (nat_abs z) = (not_negative_lem z low, omega arith) in
+    let p : T (non_neg z) × Fits w32 (nat_abs z) = (not_negative_lem z small, omega arith) in
     rw back p
 
 pub load-requires : goal.load-requires
-load-requires c = let f = c.requires in whole_tile _ _ _ _ f.rows f.cols f.reads f.planes
+load-requires c = let f = c.requires in rw c.whole-tile.ensures (whole_tile _ _ _ _ f.rows f.cols f.reads f.planes)
 
 pub clean_planes-count-requires-clause-indexed : goal.clean_planes-count-requires-clause-indexed
 clean_planes-count-requires-clause-indexed c =
@@ -36,12 +38,13 @@ clean_planes-count-requires-clause-indexed c =
     let a = c.args in
     let z = a.limits.region in
     let known : SFits w32 z = search rules in
-    let low : lt_z z (pos 2) ≡ false = rw (to_z-of_z {w = w32} {z = z} known) at c.if-none_small.false in
+    let yes : c.some_small.result ≡ true = search rules in
+    let small : le_z (pos 2) z ≡ true = rw (to_z-of_z {w = w32} {z = z} known) at (sym c.some_small.ensures ∙ yes) in
     let n = a.size.h * a.size.w in
-    loaded_known f low c.load.new.work (subst (Painted (take n a.cells.now) n) (sym c.load.ensures.work_after) (load_whole a.cells.now a.work.now a.size.h a.size.w f.reads))
+    loaded_known f small c.load.new.work (subst (Painted (take n a.cells.now) n) (sym (rw c.whole-tile.ensures at c.load.ensures.work_after)) (load_whole a.cells.now a.work.now a.size.h a.size.w f.reads))
 
-pub store-requires-clause-tile : goal.store-requires-clause-tile
-store-requires-clause-tile c = let f = c.requires in whole_tile _ _ _ _ f.rows f.cols f.reads (rw (c.clean_planes-count.ensures.len, c.load.auto.work) f.planes)
+pub store-requires-clause-lies : goal.store-requires-clause-lies
+store-requires-clause-lies c = let f = c.requires in rw c.whole-tile.ensures (whole_tile _ _ _ _ f.rows f.cols f.reads (rw (c.clean_planes-count.ensures.len, c.load.auto.work) f.planes))
 
 pub returns : goal.returns
 returns c =
@@ -50,9 +53,10 @@ returns c =
     let z = a.limits.region in
     let known : SFits w32 z = search rules in
     let back = to_z-of_z {w = w32} {z = z} known in
-    let low : lt_z z (pos 2) ≡ false = rw back at c.if-none_small.false in
-    let e : pos (nat_abs (to_z w32 (of_z w32 z))) ≡ z = rw back (pos-nat_abs z (not_negative_lem z low)) in
+    let yes : c.some_small.result ≡ true = search rules in
+    let small : le_z (pos 2) z ≡ true = rw back at (sym c.some_small.ensures ∙ yes) in
+    let e : pos (nat_abs (to_z w32 (of_z w32 z))) ≡ z = rw back (pos-nat_abs z (not_negative_lem z small)) in
     let n = a.size.h * a.size.w in
-    let painted = subst (Painted (take n a.cells.now) n) (sym c.load.ensures.work_after) (load_whole a.cells.now a.work.now a.size.h a.size.w f.reads) in
-    let r = all_cleaned f a.max_passes a.limits.colour (nat_abs (to_z w32 (of_z w32 z))) e c.load.new.work c.clean_planes-count.new.work c.clean_planes-count.result painted c.clean_planes-count.ensures in
-    record { value = r.0; cells_after = c.store.ensures ∙ store_whole a.cells.now c.clean_planes-count.new.work a.size.h a.size.w f.reads ∙ r.1 }
+    let painted = subst (Painted (take n a.cells.now) n) (sym (rw c.whole-tile.ensures at c.load.ensures.work_after)) (load_whole a.cells.now a.work.now a.size.h a.size.w f.reads) in
+    let r = all_cleaned f a.max_passes a.limits.colour _ (nat_abs (to_z w32 (of_z w32 z))) e c.load.new.work c.clean_planes-count.new.work c.clean_planes-count.result painted c.clean_planes-count.ensures in
+    record { value = r.0; cells_after = rw c.whole-tile.ensures at c.store.ensures ∙ store_whole a.cells.now c.clean_planes-count.new.work a.size.h a.size.w f.reads ∙ r.1 }

@@ -23,4 +23,4 @@ loop-i-preserved c =
 pub returns : goal.returns
 returns c =
     let ends = c.region_span-span.ensures in
-    met_as (λ q l z. rw ends.0 at (group-within (λ p. adjoins c.args.judge.grid p q ≡ true) c.requires.group ends c.loop-i-test.false z)) c.loop-i.invariant.met
+    met_as (λ q l z. rw ends.0 at (group-within (λ p. adjoins c.args.judge.now.grid p q ≡ true) c.requires.group ends c.loop-i-test.false z)) c.loop-i.invariant.met

@@ -12,7 +12,7 @@ loop-s-init c = record { met = met_none c.requires.stage (λ q l z. let i = z.1 
 
 pub small_found-requires : goal.small_found-requires
 small_found-requires c =
-    let walk = walk_turn {grid = c.args.judge.grid} {s = c.loop-s.s} c.requires.p_bound c.on_edge-border.ensures (omega arith) in
+    let walk = walk_turn {grid = c.args.judge.now.grid} {s = c.loop-s.s} c.requires.p_bound c.on_edge-border.ensures (omega arith) in
     (c.loop-s.invariant.met.stage.sheet, walk.one)
 
 pub judge_region-end-requires-clause-group : goal.judge_region-end-requires-clause-group
@@ -20,19 +20,19 @@ judge_region-end-requires-clause-group c = let s = c.in-Some.ensures in c.loop-s
 
 pub loop-s-preserved : goal.loop-s-preserved
 loop-s-preserved c =
-    let walk = walk_turn {grid = c.args.judge.grid} {s = c.loop-s.s} c.requires.p_bound c.on_edge-border.ensures (omega arith) in
+    let walk = walk_turn {grid = c.args.judge.now.grid} {s = c.loop-s.s} c.requires.p_bound c.on_edge-border.ensures (omega arith) in
     let u = c.loop-s.invariant.met in
-    let to = hop c.args.judge.grid.h c.args.judge.grid.w c.args.p c.loop-s.s in
+    let to = hop c.args.judge.now.grid.h c.args.judge.now.grid.w c.args.p c.loop-s.s in
     record {
       met = elim c.match-small_found.branch [
-        | in-Some w ↦ rw (w.work-is, w.end-is) (met_more c.requires.stage (λ q b. reached_more c.args.judge.grid c.args.p c.loop-s.s) u (met_found u.stage to (rw walk.lands at w.in-Some.ensures) w.judge_region-end.ensures))
-        | in_default w ↦ rw (w.work-is, w.end-is) (met_more c.requires.stage (λ q b. reached_more c.args.judge.grid c.args.p c.loop-s.s) u (met_unfound u.stage to (rw walk.lands at w.in_default.ensures)))
+        | in-Some w ↦ rw (w.work-is, w.end-is) (met_more c.requires.stage (λ q b. reached_more c.args.judge.now.grid c.args.p c.loop-s.s) u (met_found u.stage to (rw walk.lands at w.in-Some.ensures) w.judge_region-end.ensures))
+        | in_default w ↦ rw (w.work-is, w.end-is) (met_more c.requires.stage (λ q b. reached_more c.args.judge.now.grid c.args.p c.loop-s.s) u (met_unfound u.stage to (rw walk.lands at w.in_default.ensures)))
       ];
       made = omega arith;
     }
 
 pub returns-then-s-steps : goal.returns-then-s-steps
-returns-then-s-steps c = met_as (λ q l. all_reached c.args.judge.grid c.args.p c.loop-s.s (omega arith) l) c.loop-s.invariant.met
+returns-then-s-steps c = met_as (λ q l. all_reached c.args.judge.now.grid c.args.p c.loop-s.s (omega arith) l) c.loop-s.invariant.met
 
 pub returns : goal.returns
-returns c = met_as (λ q l. all_reached c.args.judge.grid c.args.p c.loop-s.s (omega (arith, steps_most c.args.judge.grid.near)) l) c.loop-s.invariant.met
+returns c = met_as (λ q l. all_reached c.args.judge.now.grid c.args.p c.loop-s.s (omega (arith, steps_most c.args.judge.now.grid.near)) l) c.loop-s.invariant.met

@@ -1,5 +1,5 @@
 -- `frontier::judging::judge_region`, way out by way out. Assumes nothing.
-use Rattle.std.proofs.Common.{◌≡◌, ◌+◌, ◌*◌, ap, ◌∙◌, add-one, length-set, arith}
+use Rattle.std.proofs.Common.{◌≡◌, ◌+◌, ◌*◌, ap, sym, ◌∙◌, add-one, length-set, arith}
 use Rattle.verdicts.specs.Steps.{area_of}
 use Rattle.verdicts.specs.Choice.{number}
 use Rattle.verdicts.proofs.Keeping.{sheet-few, group-alike}
@@ -14,24 +14,26 @@ returns-in-Stays c = noted_still _ _ c.args.at _ _ _ c.requires.group.label (sta
 pub set_region-requires-clause-group : goal.set_region-requires-clause-group
 unfolding number
 set_region-requires-clause-group c =
-    let n = area_of c.args.judge.grid in
+    let n = area_of c.args.judge.now.grid in
     let few = sheet-few c.requires.stage.sheet in
-    let u = rw (c.in-Frozen.is, ← c.code.ensures) at c.verdict-verdict.ensures in
+    let frozen : number c.verdict-verdict.result ≡ c.code.result = ap number c.in-Frozen.is ∙ sym c.code.ensures in
+    let u = rw frozen at c.verdict-verdict.ensures in
     group-alike (six_alike _ n c.args.at c.args.end _ _ c.requires.group.label (stage_room c.requires.stage c.requires.group).0 _ u (λ z. let o : c.code.result ≡ 1 = c.code.ensures in omega arith)
     (6 * n + c.args.at) (omega arith) (omega (arith, c.verdict-verdict.ensures.kept.len, c.requires.group.label))) c.args.at c.requires.group
 
 pub returns-in-Frozen : goal.returns-in-Frozen
 unfolding number
 returns-in-Frozen c =
-    let n = area_of c.args.judge.grid in
-    let u = rw (c.in-Frozen.is, ← c.code.ensures) at c.verdict-verdict.ensures in
+    let n = area_of c.args.judge.now.grid in
+    let frozen : number c.verdict-verdict.result ≡ c.code.result = ap number c.in-Frozen.is ∙ sym c.code.ensures in
+    let u = rw frozen at c.verdict-verdict.ensures in
     noted_froze _ n c.args.at c.args.end _ _ c.requires.group.label (stage_room c.requires.stage c.requires.group).0 _ u (λ z. let o : c.code.result ≡ 1 = c.code.ensures in omega arith)
     (6 * n + c.args.at) (omega arith) (omega (arith, c.verdict-verdict.ensures.kept.len, c.requires.group.label)) c.code.ensures _ c.set_region.ensures
 
 pub returns-in-Takes : goal.returns-in-Takes
 unfolding number
 returns-in-Takes c =
-    let n = area_of c.args.judge.grid in
+    let n = area_of c.args.judge.now.grid in
     let v : c.code-in-Takes.result ≡ c.in-Takes.field-0 + 2 = c.code-in-Takes.ensures ∙ ap number c.in-Takes.is in
     let u = rw (← c.code-in-Takes.ensures) at c.verdict-verdict.ensures in
     let some : c.code-in-Takes.result ≡ 0 → ⊥ = (λ z. omega arith) in

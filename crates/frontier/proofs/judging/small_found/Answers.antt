@@ -4,7 +4,6 @@ use Rattle.std.specs.Prelude.{Option, None, Some, MatchOption}
 use Rattle.grid.proofs.Places.{none_some}
 use Rattle.frontier.specs.Judging.{Small}
 use Rattle.frontier.proofs.Progress.{renamed}
-use Rattle.verdicts.proofs.Stepping.{step_finds}
 use Rattle.frontier.proofs.Turns.{step_read}
 use Rattle.frontier.proofs.judging.small_found.Goals as goal
 
@@ -16,10 +15,10 @@ by_step n q work o e (Some at) s = renamed s (e ∙ ap Some (sym s.named))
 pub returns-in_err-q : goal.returns-in_err-q
 returns-in_err-q c =
     let r : c.from_residual.result ≡ None = search rules in
-    rw r (λ at s. none_some (sym c.in_err-q.was ∙ step_finds c.requires.1 c.reached.ensures ∙ s.named))
+    rw r (λ at s. none_some (sym c.in_err-q.was ∙ c.reached.ensures ∙ s.named))
 
 pub small_region-requires : goal.small_region-requires
-small_region-requires c = let seen = step_read c.args.step c.requires.0 (sym (step_finds c.requires.1 c.reached.ensures) ∙ c.in_ok-q.was) in (record { few = seen.few; room = seen.room }, seen.inside)
+small_region-requires c = let seen = step_read c.args.step c.requires.0 (sym c.reached.ensures ∙ c.in_ok-q.was) in (record { few = seen.few; room = seen.room }, seen.inside)
 
 pub returns : goal.returns
-returns c = by_step _ _ _ _ (sym (step_finds c.requires.1 c.reached.ensures) ∙ c.in_ok-q.was) _ c.small_region.ensures
+returns c = by_step _ _ _ _ (sym c.reached.ensures ∙ c.in_ok-q.was) _ c.small_region.ensures

@@ -2,7 +2,7 @@
 use Rattle.std.proofs.Common.{◌≡◌, ℕ, suc, ltb, true, false, rules, arith, tests, refl}
 use Rattle.std.proofs.lemmas.Iterator.{serves_from_Range, cases_from_any, YieldsList-from_range}
 use Rattle.orphans.specs.Starting.{size_of}
-use Rattle.orphans.proofs.Ranges.{any-from_range}
+use Rattle.base.proofs.Ranges.{any-from_range}
 use Rattle.orphans.proofs.starting.any_small.Goals as goal
 
 pub any-requires-clause-callable : goal.any-requires-clause-callable

@@ -14,12 +14,12 @@ pub returns-then-decided : goal.returns-then-decided
 unfolding number
 returns-then-decided c =
     let r = c.requires in
-    judged-done c.args.self.by c.args.self.palette.now r.grouped_sheet.0 r.sound.0 r.grouped_sheet.1 (λ e. c.if-decided.true (number-read c.args.self.by c.args.self.palette.now r.grouped_sheet.0 r.sound.0 r.grouped_sheet.1 ∙ e))
+    judged-done c.args.self.now.by c.args.self.now.palette.now r.grouped_sheet.0 r.sound.0 r.grouped_sheet.1 (λ e. c.if-decided.true (number-read c.args.self.now.by c.args.self.now.palette.now r.grouped_sheet.0 r.sound.0 r.grouped_sheet.1 ∙ e))
 
 pub bounds-work-n-3 : goal.bounds-work-n-3
 bounds-work-n-3 c =
     let r = c.requires in
-    let l = first_in c.args.self.by c.args.self.palette.now r.grouped_sheet.0 r.sound.0 r.grouped_sheet.1 c.region_span-span.ensures.0 in
+    let l = first_in c.args.self.now.by c.args.self.now.palette.now r.grouped_sheet.0 r.sound.0 r.grouped_sheet.1 c.region_span-span.ensures.0 in
     omega arith
 
 pub returns-then-large : goal.returns-then-large
@@ -30,23 +30,23 @@ returns-then-large c =
     let sound = r.sound.0 in
     let group = r.grouped_sheet.1 in
     let ends = c.region_span-span.ensures in
-    let free = sym (number-read c.args.self.by c.args.self.palette.now sheet sound group) ∙ c.if-decided.false in
-    let large = large-read c.args.self.by c.args.self.palette.now sheet sound group ends.0 in
+    let free = sym (number-read c.args.self.now.by c.args.self.now.palette.now sheet sound group) ∙ c.if-decided.false in
+    let large = large-read c.args.self.now.by c.args.self.now.palette.now sheet sound group ends.0 in
     elim c.then-large.branch [
-      | then-large-via-then-large w ↦ judged_big c.args.self.by c.args.self.palette.now sheet sound group (λ z. w.if-large.true (large ∙ z))
-      | then-large-via-else-large+then-not-large_around w ↦ judged_silent c.args.self.by c.args.self.palette.now sheet sound group c.region_span-span.result ends free (sym large ∙ w.if-large.false) r.indexed (r.sound.1 free) (w.large_around.ensures w.if-not-large_around.true)
+      | then-large-via-then-large w ↦ judged_big c.args.self.now.by c.args.self.now.palette.now sheet sound group (λ z. w.if-large.true (large ∙ z))
+      | then-large-via-else-large+then-not-large_around w ↦ judged_silent c.args.self.now.by c.args.self.now.palette.now sheet sound group c.region_span-span.result ends free (sym large ∙ w.if-large.false) r.indexed (r.sound.1 free) (w.large_around.ensures w.if-not-large_around.true)
     ]
 
 pub bounds-work-first : goal.bounds-work-first
 bounds-work-first c =
     let r = c.requires in
-    let l = first_in c.args.self.by c.args.self.palette.now r.grouped_sheet.0 r.sound.0 r.grouped_sheet.1 c.region_span-span.ensures.0 in
+    let l = first_in c.args.self.now.by c.args.self.now.palette.now r.grouped_sheet.0 r.sound.0 r.grouped_sheet.1 c.region_span-span.ensures.0 in
     omega arith
 
 pub overflow_sub-own : goal.overflow_sub-own
 overflow_sub-own c =
     let r = c.requires in
-    let l = paint_some c.args.self.by c.args.self.palette.now r.grouped_sheet.0 r.sound.0 r.grouped_sheet.1 c.region_span-span.ensures.0 in
+    let l = paint_some c.args.self.now.by c.args.self.now.palette.now r.grouped_sheet.0 r.sound.0 r.grouped_sheet.1 c.region_span-span.ensures.0 in
     omega arith
 
 pub large_around-requires : goal.large_around-requires
@@ -61,7 +61,7 @@ pub overflow_sub-c : goal.overflow_sub-c
 overflow_sub-c c =
     let sheet = c.requires.grouped_sheet.0 in
     let s = group-stretch c.requires.grouped_sheet.1 c.region_span-span.ensures in
-    let l = one_some sheet (one_paint_lem c.args.self.grid c.args.work.now sheet c.region_span-span.result.from c.region_span-span.result.to c.in-Some.paint s.rises c.in-Some.ensures) in
+    let l = one_some sheet (one_paint_lem c.args.self.now.grid c.args.work.now sheet c.region_span-span.result.from c.region_span-span.result.to c.in-Some.paint s.rises c.in-Some.ensures) in
     omega arith
 
 pub only_choice-requires : goal.only_choice-requires
@@ -69,11 +69,11 @@ only_choice-requires c =
     let r = c.requires in
     let sheet = r.grouped_sheet.0 in
     let s = group-stretch r.grouped_sheet.1 c.region_span-span.ensures in
-    let u = one_paint_lem c.args.self.grid c.args.work.now sheet c.region_span-span.result.from c.region_span-span.result.to c.in-Some.paint s.rises c.in-Some.ensures in
-    let o = paint_most c.args.self.by c.args.self.palette.now sheet r.sound.0 r.grouped_sheet.1 c.region_span-span.ensures.0 r.indexed in
+    let u = one_paint_lem c.args.self.now.grid c.args.work.now sheet c.region_span-span.result.from c.region_span-span.result.to c.in-Some.paint s.rises c.in-Some.ensures in
+    let o = paint_most c.args.self.now.by c.args.self.now.palette.now sheet r.sound.0 r.grouped_sheet.1 c.region_span-span.ensures.0 r.indexed in
     let l = one_most r.indexed u in
     let m = one_some sheet u in
-    (omega (arith, paint_some c.args.self.by c.args.self.palette.now sheet r.sound.0 r.grouped_sheet.1 c.region_span-span.ensures.0, r.indexed.few), omega (arith, r.indexed.few))
+    (omega (arith, paint_some c.args.self.now.by c.args.self.now.palette.now sheet r.sound.0 r.grouped_sheet.1 c.region_span-span.ensures.0, r.indexed.few), omega (arith, r.indexed.few))
 
 pub returns-in-Some : goal.returns-in-Some
 returns-in-Some c =
@@ -82,27 +82,27 @@ returns-in-Some c =
     let sound = r.sound.0 in
     let group = r.grouped_sheet.1 in
     let ends = c.region_span-span.ensures in
-    let read = number-read c.args.self.by c.args.self.palette.now sheet sound group in
+    let read = number-read c.args.self.now.by c.args.self.now.palette.now sheet sound group in
     let s = group-stretch group ends in
-    judged_agreed c.args.self.by c.args.self.palette.now sheet sound group c.region_span-span.result ends (sym read ∙ c.if-decided.false) (sym (large-read c.args.self.by c.args.self.palette.now sheet sound group ends.0) ∙ c.if-large.false) r.indexed
-    (one_paint_lem c.args.self.grid c.args.work.now sheet c.region_span-span.result.from c.region_span-span.result.to c.in-Some.paint s.rises c.in-Some.ensures)
-    (paint-read c.args.self.by c.args.self.palette.now sheet sound group ends.0) (ap number c.only_choice.ensures)
+    judged_agreed c.args.self.now.by c.args.self.now.palette.now sheet sound group c.region_span-span.result ends (sym read ∙ c.if-decided.false) (sym (large-read c.args.self.now.by c.args.self.now.palette.now sheet sound group ends.0) ∙ c.if-large.false) r.indexed
+    (one_paint_lem c.args.self.now.grid c.args.work.now sheet c.region_span-span.result.from c.region_span-span.result.to c.in-Some.paint s.rises c.in-Some.ensures)
+    (paint-read c.args.self.now.by c.args.self.now.palette.now sheet sound group ends.0) (ap number c.only_choice.ensures)
 
 pub poll-requires-clause-grouped_sheet : goal.poll-requires-clause-grouped_sheet
-poll-requires-clause-grouped_sheet c = (c.requires.grouped_sheet.0, group-stretch c.requires.grouped_sheet.1 c.region_span-span.ensures, omega arith)
+poll-requires-clause-grouped_sheet c = (c.requires.grouped_sheet.0, group-stretch c.requires.grouped_sheet.1 c.region_span-span.ensures)
 
 pub poll-requires-clause-tallied : goal.poll-requires-clause-tallied
 poll-requires-clause-tallied c =
     let r = c.requires in
-    let read = number-read c.args.self.by c.args.self.palette.now r.grouped_sheet.0 r.sound.0 r.grouped_sheet.1 in
-    tally_new (area_of c.args.self.grid) (c.args.at + 2) c.args.work.now (r.sound.1 (sym read ∙ c.if-decided.false))
+    let read = number-read c.args.self.now.by c.args.self.now.palette.now r.grouped_sheet.0 r.sound.0 r.grouped_sheet.1 in
+    tally_new (area_of c.args.self.now.grid) (c.args.at + 2) c.args.work.now (r.sound.1 (sym read ∙ c.if-decided.false))
 
 pub choice-requires : goal.choice-requires
 choice-requires c =
     let r = c.requires in
     let sheet = r.grouped_sheet.0 in
-    let some = paint_some c.args.self.by c.args.self.palette.now sheet r.sound.0 r.grouped_sheet.1 c.region_span-span.ensures.0 in
-    let most = paint_most c.args.self.by c.args.self.palette.now sheet r.sound.0 r.grouped_sheet.1 c.region_span-span.ensures.0 r.indexed in
+    let some = paint_some c.args.self.now.by c.args.self.now.palette.now sheet r.sound.0 r.grouped_sheet.1 c.region_span-span.ensures.0 in
+    let most = paint_most c.args.self.now.by c.args.self.now.palette.now sheet r.sound.0 r.grouped_sheet.1 c.region_span-span.ensures.0 r.indexed in
     (r.indexed.few, omega arith)
 
 pub returns : goal.returns
@@ -112,5 +112,5 @@ returns c =
     let sound = r.sound.0 in
     let group = r.grouped_sheet.1 in
     let ends = c.region_span-span.ensures in
-    let free = sym (number-read c.args.self.by c.args.self.palette.now sheet sound group) ∙ c.if-decided.false in
-    judged_polled c.args.self.by c.args.self.palette.now sheet sound group c.region_span-span.result ends free (sym (large-read c.args.self.by c.args.self.palette.now sheet sound group ends.0) ∙ c.if-large.false) r.indexed (r.sound.1 free) c.poll.ensures (paint-read c.args.self.by c.args.self.palette.now sheet sound group ends.0) (ap number c.choice.ensures)
+    let free = sym (number-read c.args.self.now.by c.args.self.now.palette.now sheet sound group) ∙ c.if-decided.false in
+    judged_polled c.args.self.now.by c.args.self.now.palette.now sheet sound group c.region_span-span.result ends free (sym (large-read c.args.self.now.by c.args.self.now.palette.now sheet sound group ends.0) ∙ c.if-large.false) r.indexed (r.sound.1 free) c.poll.ensures (paint-read c.args.self.now.by c.args.self.now.palette.now sheet sound group ends.0) (ap number c.choice.ensures)

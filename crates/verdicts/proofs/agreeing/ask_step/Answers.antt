@@ -2,7 +2,6 @@
 use Rattle.std.proofs.Common.{◌<◌, sym, ◌∙◌, arith}
 use Rattle.grid.proofs.Places.{step_sound}
 use Rattle.verdicts.specs.Steps.{area_of}
-use Rattle.verdicts.proofs.Stepping.{step_finds}
 use Rattle.verdicts.proofs.Keeping.{sheet-few}
 use Rattle.verdicts.proofs.Agrees.{asked-none, asked-small, asked-large}
 use Rattle.verdicts.proofs.agreeing.ask_step.Goals as goal
@@ -18,11 +17,11 @@ bounds-work-n c = let l : c.in-Some.q < area_of c.args.grid = (step_sound _ _ _ 
 
 pub returns-in-Some : goal.returns-in-Some
 returns-in-Some c =
-    c.join.ensures ∙ asked-large (area_of c.args.grid) c.in-Some.q c.args.work.now c.args.so_far (sym (step_finds c.requires.1 c.in-Some.ensures)) c.if-work-n-ne0.true
+    c.join.ensures ∙ asked-large (area_of c.args.grid) c.in-Some.q c.args.work.now c.args.so_far (sym c.in-Some.ensures) c.if-work-n-ne0.true
 
 pub returns-in_default : goal.returns-in_default
 returns-in_default c =
-    asked-small (area_of c.args.grid) c.in-Some.q c.args.work.now c.args.so_far (sym (step_finds c.requires.1 c.in-Some.ensures)) c.if-work-n-ne0.false
+    asked-small (area_of c.args.grid) c.in-Some.q c.args.work.now c.args.so_far (sym c.in-Some.ensures) c.if-work-n-ne0.false
 
 pub returns-in_default-2 : goal.returns-in_default-2
-returns-in_default-2 c = asked-none (area_of c.args.grid) c.args.work.now c.args.so_far (sym (step_finds c.requires.1 c.reached.ensures) ∙ c.in_default.is)
+returns-in_default-2 c = asked-none (area_of c.args.grid) c.args.work.now c.args.so_far (sym c.reached.ensures ∙ c.in_default.is)

@@ -6,20 +6,20 @@ use Rattle.verdicts.proofs.target.choice.Goals as goal
 
 pub returns-then-m-eq0 : goal.returns-then-m-eq0
 returns-then-m-eq0 c =
-    choice_none (entry_distance c.args.judge.palette.now c.args.own) c.args.counts.now c.args.judge.by.k c.most-m.result c.args.judge.by.max_delta c.most-m.ensures c.if-m-eq0.true
+    choice_none (entry_distance c.args.judge.now.palette.now c.args.own) c.args.counts.now c.args.judge.now.by.k c.most-m.result c.args.judge.now.by.max_delta c.most-m.ensures c.if-m-eq0.true
 
 pub decide-requires : goal.decide-requires
 decide-requires c =
-    let l = nearest-below (entry_distance c.args.judge.palette.now c.args.own) c.args.counts.now c.most-m.result c.args.judge.by.k c.in-Some.target (sym c.in-Some.ensures) in
+    let l = nearest-below (entry_distance c.args.judge.now.palette.now c.args.own) c.args.counts.now c.most-m.result c.args.judge.now.by.k c.in-Some.target (sym c.in-Some.ensures) in
     omega arith
 
 pub returns-in-Some : goal.returns-in-Some
 unfolding decision
 returns-in-Some c =
     c.decide.ensures
-    ∙ choice_some (entry_distance c.args.judge.palette.now c.args.own) c.args.counts.now c.args.judge.by.k c.most-m.result c.args.judge.by.max_delta c.most-m.ensures c.if-m-eq0.false (Some c.in-Some.target) c.in-Some.ensures
+    ∙ choice_some (entry_distance c.args.judge.now.palette.now c.args.own) c.args.counts.now c.args.judge.now.by.k c.most-m.result c.args.judge.now.by.max_delta c.most-m.ensures c.if-m-eq0.false (Some c.in-Some.target) c.in-Some.ensures
 
 pub returns-in-None : goal.returns-in-None
 returns-in-None c =
-    decision_none c.args.judge.by.max_delta
-    ∙ choice_some (entry_distance c.args.judge.palette.now c.args.own) c.args.counts.now c.args.judge.by.k c.most-m.result c.args.judge.by.max_delta c.most-m.ensures c.if-m-eq0.false None c.in-None.ensures
+    decision_none c.args.judge.now.by.max_delta
+    ∙ choice_some (entry_distance c.args.judge.now.palette.now c.args.own) c.args.counts.now c.args.judge.now.by.k c.most-m.result c.args.judge.now.by.max_delta c.most-m.ensures c.if-m-eq0.false None c.in-None.ensures

@@ -9,4 +9,4 @@ use Rattle.verdicts.proofs.target.only_choice.Goals as goal
 pub returns : goal.returns
 unfolding entry_distance candidate decision
 returns c =
-    c.decide.ensures ∙ ap (verdict_on c.args.c) (c.closer_than-near.ensures ∙ ap₂ (λ (p q : Lab). lt (distance p q) c.args.judge.by.max_delta) c.entry.ensures c.entry-2.ensures)
+    c.decide.ensures ∙ ap (verdict_on c.args.c) (c.closer_than-near.ensures ∙ ap₂ (λ (p q : Lab). lt (distance p q) c.args.judge.now.by.max_delta) c.entry.ensures c.entry-2.ensures)

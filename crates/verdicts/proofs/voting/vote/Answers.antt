@@ -4,4 +4,4 @@ use Rattle.grid.proofs.Places.{step_sound}
 use Rattle.verdicts.proofs.voting.vote.Goals as goal
 
 pub ask-requires-clause-q_lt_n : goal.ask-requires-clause-q_lt_n
-ask-requires-clause-q_lt_n c = ((step_sound _ _ _ _ _ _ _ (sym c.in-Some.ensures)).inside, c.requires.grouped_sheet.2)
+ask-requires-clause-q_lt_n c = (step_sound _ _ _ _ _ _ _ (sym c.in-Some.ensures)).inside

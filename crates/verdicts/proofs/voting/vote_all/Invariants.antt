@@ -7,4 +7,4 @@ use Rattle.verdicts.proofs.Votes.{Reached}
 use Rattle.verdicts.proofs.voting.vote_all.Given as goal
 
 abbrev pub invariant-loop-s : goal.invariant-loop-s
-invariant-loop-s l = Polled (area_of l.grid) l.mark (Reached l.grid l.p l.s) l.fn.work l.work l.counts × (l.s ≤ steps_of l.grid.near)
+invariant-loop-s l = Polled (area_of l.grid) l.mark.word (Reached l.grid l.p l.s) l.fn.work l.work l.counts × (l.s ≤ steps_of l.grid.near)
