@@ -9,7 +9,7 @@ use native.Mathlib.Omega.{arith}
 use lib.Dec.{eqb}
 use lib.IntN.{ℤ}
 use Rattle.base.specs.Places.{any}
-use Rattle.base.proofs.Counting.{clash, both, left, right, either, or_left, or_right, eqb_yes, yes_eqb, any_yes, yes_any, any_no, same_test}
+use Rattle.base.proofs.Counting.{both, left, right, either, or_left, or_right, eqb_yes, yes_eqb, any_yes, yes_any, same_test}
 use Rattle.rules.specs.Sheet.{Sheet, area, sheet_of}
 use Rattle.rules.specs.Regions.{opaque}
 use Rattle.rules.specs.Grid.{on_edge}
@@ -81,9 +81,6 @@ pub record Line (h w from by many : ℕ) : Type 0 where
   pub edge : (i : ℕ) → i < many → Edge h w (row i) (col i)
   pub on : (i : ℕ) → i < many → from + i * by ≡ row i * w + col i
 
-pub line_in : {h w n from by many : ℕ} → Line h w from by many → h * w ≤ n → (i : ℕ) → i < many → from + i * by < n
-line_in {h} {w} t room i k = omega (arith, t.on i k, place_in_lem h w (t.row i) (t.col i) (t.in_row i k) (t.in_col i k))
-
 module _ (h w : ℕ) (some : 0 < h * w) where
   high : 1 ≤ h
   high = some_row h w some
@@ -91,7 +88,7 @@ module _ (h w : ℕ) (some : 0 < h * w) where
   broad : 0 < w
   broad = wide h w 0 some
 
-  pub top-line : Line h w 0 1 w
+  top-line : Line h w 0 1 w
   top-line =
       record {
         row = λ i. 0;
@@ -102,7 +99,7 @@ module _ (h w : ℕ) (some : 0 < h * w) where
         on = λ i k. omega (arith, mul-one i, zero-mul w);
       }
 
-  pub bottom_line : Line h w (h * w - w) 1 w
+  bottom_line : Line h w (h * w - w) 1 w
   bottom_line =
       record {
         row = λ i. h - 1;
@@ -113,11 +110,11 @@ module _ (h w : ℕ) (some : 0 < h * w) where
         on = λ i k. omega (arith, mul-one i, row_back h w high);
       }
 
-  pub start-line : Line h w 0 w h
+  start-line : Line h w 0 w h
   start-line =
       record { row = λ i. i; col = λ i. 0; in_row = λ i k. k; in_col = λ i k. broad; edge = λ i k. start refl; on = λ i k. omega arith }
 
-  pub end_line : Line h w (w - 1) w h
+  end_line : Line h w (w - 1) w h
   end_line =
       record {
         row = λ i. i;
@@ -133,7 +130,7 @@ module _ (cells : List ℤ) (h w : ℕ) where
   abbrev pub Hit : ℕ → ℕ → ℕ → Bool
   Hit from by many = any many (λ i. opaque cells (from + i * by))
 
-  pub line_hit : {from by many : ℕ} → Line h w from by many → Hit from by many ≡ true → touches (sheet_of cells h w) ≡ true
+  line_hit : {from by many : ℕ} → Line h w from by many → Hit from by many ≡ true → touches (sheet_of cells h w) ≡ true
   unfolding sheet_of
   line_hit {from} {by} t e =
       let r = any_yes _ _ e in
@@ -143,27 +140,32 @@ module _ (cells : List ℤ) (h w : ℕ) where
       touch_yes (sheet_of cells h w) y x (t.in_row i r.1) (t.in_col i r.1) (t.edge i r.1)
       (front (h * w) cells (y * w + x) (place_in_lem h w y x (t.in_row i r.1) (t.in_col i r.1)) ∙ subst (λ (p : ℕ). opaque cells p ≡ true) (t.on i r.1) r.2)
 
-  -- a cell that is known to be opaque is not missed
-  missed : (from by many i p : ℕ) → Hit from by many ≡ false → i < many → from + i * by ≡ p → opaque cells p ≡ true → ⊥
-  missed from by many i p z k e o = clash (subst (λ (q : ℕ). opaque cells q ≡ true) (sym e) o) (any_no _ _ z i k)
+  -- a cell that is known to be opaque is met
+  met : (from by many i p : ℕ) → i < many → from + i * by ≡ p → opaque cells p ≡ true → Hit from by many ≡ true
+  met from by many i p k e o = yes_any _ _ i k (subst (λ (q : ℕ). opaque cells q ≡ true) (sym e) o)
 
-  -- the fourth line decides, where the three others have none
-  pub last_line : 0 < h * w → Hit 0 1 w ≡ false → Hit (h * w - w) 1 w ≡ false → Hit 0 w h ≡ false → Hit (w - 1) w h ≡ touches (sheet_of cells h w)
+  -- the four lines decide
+  pub lines_decide : 0 < h * w → (Hit 0 1 w || Hit (h * w - w) 1 w || Hit 0 w h || Hit (w - 1) w h) ≡ touches (sheet_of cells h w)
   unfolding sheet_of top-line bottom_line start-line end_line
-  last_line some a b c = same_test (line_hit (end_line h w some)) (λ t. go (touching (sheet_of cells h w) t))
+  lines_decide some = same_test hit (λ t. go (touching (sheet_of cells h w) t))
     where
-      go : Touching (sheet_of cells h w) → Hit (w - 1) w h ≡ true
+      hit : (Hit 0 1 w || Hit (h * w - w) 1 w || Hit 0 w h || Hit (w - 1) w h) ≡ true → touches (sheet_of cells h w) ≡ true
+      hit e =
+          ⊎_elim (λ a. ⊎_elim (λ b. ⊎_elim (line_hit (top-line h w some)) (line_hit (bottom_line h w some)) (either _ _ b)) (line_hit (start-line h w some)) (either _ _ a)) (line_hit (end_line h w some))
+          (either (Hit 0 1 w || Hit (h * w - w) 1 w || Hit 0 w h) _ e)
+
+      go : Touching (sheet_of cells h w) → (Hit 0 1 w || Hit (h * w - w) 1 w || Hit 0 w h || Hit (w - 1) w h) ≡ true
       go k =
           let y = k.row in
           let x = k.col in
           let o : opaque cells (y * w + x) ≡ true = sym (front (h * w) cells (y * w + x) (place_in_lem h w y x k.in_row k.in_col)) ∙ k.solid in
           elim k.edge [
-            | top e ↦ absurd (missed 0 1 w x (y * w + x) a k.in_col ((top-line h w some).on x k.in_col ∙ ap (λ (r : ℕ). r * w + x) (sym e)) o)
+            | top e ↦ or_left _ (or_left _ (or_left _ (met 0 1 w x (y * w + x) k.in_col ((top-line h w some).on x k.in_col ∙ ap (λ (r : ℕ). r * w + x) (sym e)) o)))
             | bottom e ↦ (let f : h - 1 ≡ y = omega arith in
-                absurd (missed (h * w - w) 1 w x (y * w + x) b k.in_col ((bottom_line h w some).on x k.in_col ∙ ap (λ (r : ℕ). r * w + x) f) o))
-            | start e ↦ absurd (missed 0 w h y (y * w + x) c k.in_row ((start-line h w some).on y k.in_row ∙ ap (λ (r : ℕ). y * w + r) (sym e)) o)
+                or_left _ (or_left _ (or_right (Hit 0 1 w) (met (h * w - w) 1 w x (y * w + x) k.in_col ((bottom_line h w some).on x k.in_col ∙ ap (λ (r : ℕ). r * w + x) f) o))))
+            | start e ↦ or_left _ (or_right (Hit 0 1 w || Hit (h * w - w) 1 w) (met 0 w h y (y * w + x) k.in_row ((start-line h w some).on y k.in_row ∙ ap (λ (r : ℕ). y * w + r) (sym e)) o))
             | end e ↦ (let f : w - 1 ≡ x = omega arith in
-                yes_any _ _ y k.in_row (subst (λ (q : ℕ). opaque cells q ≡ true) (sym ((end_line h w some).on y k.in_row ∙ ap (λ (r : ℕ). y * w + r) f)) o))
+                or_right (Hit 0 1 w || Hit (h * w - w) 1 w || Hit 0 w h) (met (w - 1) w h y (y * w + x) k.in_row ((end_line h w some).on y k.in_row ∙ ap (λ (r : ℕ). y * w + r) f) o))
           ]
 
   -- a sheet with no cells

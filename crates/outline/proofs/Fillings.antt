@@ -6,7 +6,8 @@ use native.Mathlib.Decide.{dec_lt, ℕ_discrete}
 use native.Mathlib.Omega.{arith}
 use lib.IntN.{ℤ}
 use lib.ListN.{length, get_or, set, take, drop, take-append-drop, length-set, length-append, length-drop, get_or-append}
-use lib.Seq.{take_at, drop_at, length-take-le, get_or-take, get_or-drop, get_or-append-add, ext_get_or, get_or-set_same, get_or-set_other}
+use Rattle.std.proofs.Common.{append-nil}
+use lib.Seq.{take_at, drop_at, drop-length, length-take-le, get_or-take, get_or-drop, get_or-append-add, ext_get_or, get_or-set_same, get_or-set_other}
 use Rattle.base.specs.Places.{table, table_from}
 use Rattle.base.specs.Outputs.{filled}
 use Rattle.base.proofs.Counting.{table-length}
@@ -60,10 +61,6 @@ span_one d n m x room =
 module _ {A : Type 0} (d : A) (n : ℕ) (f : ℕ → A) (l : List A) where
   pub span_filled : (m : List A) → n ≤ length l → Span d 0 n f l m → m ≡ filled n f l
   span_filled m room v = filled_is n f l m d room v.size (λ p h. v.done p (omega arith) h) (λ p h. v.past p h)
-
-  pub filled-same : (g : ℕ → A) → n ≤ length l → ((p : ℕ) → p < n → f p ≡ g p) → filled n f l ≡ filled n g l
-  filled-same g h e =
-      filled_is n g l (filled n f l) d h (filled-length n f l h) (λ p k. filled_at n f l d p k ∙ e p k) (λ p k. filled_past n f l d p k)
 
   -- a stretch from a on
   module _ (a : ℕ) (room : a + n ≤ length l) where
@@ -154,10 +151,15 @@ module _ {A : Type 0} (n : ℕ) (f : ℕ → A) (l : List A) where
   unfolding filled
   filled_rest = drop_at (table n f) (drop n l) n (table-length n f)
 
+-- a whole list is filled
+pub filled_all : {A : Type 0} (f : ℕ → A) (l : List A) → filled (length l) f l ≡ table (length l) f
+unfolding filled
+filled_all f l = ap (λ r. table (length l) f ++ r) (drop-length l) ∙ append-nil (table (length l) f)
+
 -- a table written over a lent list
-pub over-table : (n : ℕ) (f : ℕ → ℤ) (l : List ℤ) → over (table n f) l ≡ filled n f l
-unfolding over filled
-over-table n f l = rw (table-length n f)
+pub over_table : (n : ℕ) (f : ℕ → ℤ) (l : List ℤ) → table n f ++ drop n l ≡ over (table n f) l
+unfolding over
+over_table n f l = rw (table-length n f)
 
 -- writing n cells twice is writing them once
 pub over-filled : (n : ℕ) (f : ℕ → ℤ) (l new : List ℤ) → length new ≡ n → over new (filled n f l) ≡ over new l

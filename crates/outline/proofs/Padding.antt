@@ -15,8 +15,8 @@ use Rattle.base.proofs.Counting.{case, both, left, right, leb_yes, yes_leb, tabl
 use Rattle.rules.specs.Sheet.{Sheet, sheet_of}
 use Rattle.rules.specs.Regions.{at, opaque}
 use Rattle.rules.specs.Outline.{touches, padded_at, padded, has_ring}
-use Rattle.grid.proofs.Places.{row_of, col_of, place_in_lem}
-use Rattle.outline.specs.Room.{from_one, on_sheet}
+use Rattle.grid.proofs.Places.{row_of, col_of, place_in_lem, area as area-fits}
+use Rattle.outline.specs.Room.{Present, from_one, on_sheet}
 use Rattle.outline.specs.Rows.{stretch}
 use Rattle.outline.proofs.Places.{front_at, row_on}
 use Rattle.outline.proofs.Fillings.{Span, span_none, span-before, span_filled, stretch-span, row_more, row_ends, filled_front}
@@ -46,6 +46,14 @@ padded-at s y x h =
     (ap (λ (b : Bool). cond b (at s.cells ((y - 1) * s.width + (x - 1))) (negsuc 0)) (regrouped (leb 1 y && leb y s.height) (leb 1 x) (leb x s.width)))
 
 -- ---- written in place
+
+-- where the cell is read
+pub on_there : (cells : List ℤ) (h w y x : ℕ) → Present cells h w → on_sheet h w y x ≡ true
+    → (1 ≤ y) × (1 ≤ x) × ((y - 1) * w + (x - 1) < length cells) × ((y - 1) * w + (x - 1) ≤ 264196)
+on_there cells h w y x k e =
+    let b = on-sheet_yes h w y x e in
+    let l : (y - 1) * w + (x - 1) < h * w = place_in_lem h w (y - 1) (x - 1) (omega (arith, b.0, b.1)) (omega (arith, b.2, b.3)) in
+    (b.0, b.2, omega (arith, k.room), omega (arith, area-fits h w k.high k.wide))
 
 -- the cell that code writes
 pub cell-padded : (l : List ℤ) (h w y x : ℕ) → x < w + 2 → cond (on_sheet h w y x) (at l ((y - 1) * w + (x - 1))) (negsuc 0) ≡ padded_at (sheet_of l h w) (y * (w + 2) + x)

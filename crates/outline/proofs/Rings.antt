@@ -131,24 +131,22 @@ any_last t w last x e up down {a} {b} ea eb = same_test (λ y. ⊎_elim here the
           | no i ↦ or_right a (eb ∙ yes_any x t r.0 (omega (arith, r.1)) r.2)
         ]
 
--- one row more has none
-pub none_row : (t : ℕ → Bool) (y w : ℕ) → any (y * w) t ≡ false → any w (λ x. t (y * w + x)) ≡ false → any ((y + 1) * w) t ≡ false
-none_row t y w z n = case (any ((y + 1) * w) t) (λ e. absurd (go (any_yes _ t e))) (λ q. q)
+-- a row has a ring cell where there is a ring, and none has where there is none
+pub rows_ring : (cells : List ℤ) (h w : ℕ) → any h (λ y. any w (λ x. ring (sheet_of cells h w) (y * w + x))) ≡ has_ring (sheet_of cells h w)
+unfolding has_ring area sheet_of
+rows_ring cells h w = same_test there here
   where
-    go : (p : ℕ) × (p < (y + 1) * w) × (t p ≡ true) → ⊥
-    go r =
-        let p = r.0 in
-        elim (dec_lt p (y * w)) [
-          | yes l ↦ clash (yes_any (y * w) t p l r.2) z
-          | no g ↦ (let e : p ≡ y * w + (p - y * w) = omega arith in
-              clash (yes_any w _ (p - y * w) (omega (arith, r.1, row_on y w)) (subst (λ (i : ℕ). t i ≡ true) e r.2)) n)
-        ]
+    there : any h (λ y. any w (λ x. ring (sheet_of cells h w) (y * w + x))) ≡ true → any (h * w) (ring (sheet_of cells h w)) ≡ true
+    there e =
+        let y = any_yes _ _ e in
+        let x = any_yes _ _ y.2 in
+        yes_any _ _ (y.0 * w + x.0) (place_in_lem h w y.0 x.0 y.1 x.1) x.2
 
--- a row has one
-pub ring_in_row : (s : Sheet) (y : ℕ) → y < s.height → any s.width (λ x. ring s (y * s.width + x)) ≡ true → has_ring s ≡ true
-ring_in_row s y l e =
-    let r = any_yes _ _ e in
-    ring-found s (y * s.width + r.0) (place_in_lem s.height s.width y r.0 l r.1) r.2
+    here : any (h * w) (ring (sheet_of cells h w)) ≡ true → any h (λ y. any w (λ x. ring (sheet_of cells h w) (y * w + x))) ≡ true
+    here e =
+        let p = any_yes _ _ e in
+        yes_any _ _ (p.0 / w) (row_in h w p.0 p.1)
+        (yes_any _ (λ x. ring (sheet_of cells h w) (p.0 / w * w + x)) (p.0 % w) (col_in h w p.0 p.1) (subst (λ (q : ℕ). ring (sheet_of cells h w) q ≡ true) (sym (div-add-mod' p.0 w)) p.2))
 
 -- a sheet with no columns
 pub no_columns : (cells : List ℤ) (h w : ℕ) → w ≡ 0 → has_ring (sheet_of cells h w) ≡ false

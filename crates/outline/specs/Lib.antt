@@ -1,3 +1,4 @@
 pub mod Room
+pub mod Standing
 pub mod Rows
 pub mod Drawing

@@ -4,9 +4,18 @@ ghost use Rattle.base.specs.Places.{any};
 ghost use Rattle.base.specs.Outputs.{filled};
 ghost use Rattle.rules.specs.Sheet.{sheet_of};
 ghost use Rattle.rules.specs.Regions.{at, opaque};
-ghost use Rattle.rules.specs.Outline.{touches, padded_at};
+ghost use Rattle.rules.specs.Outline.{padded_at};
 ghost use Rattle.outline.specs.Room.{Present, from_one, on_sheet};
 ghost use Rattle.outline.specs.Rows.{stretch};
+
+// A sheet of h rows of w cells, padded or not, at the front of a lent list.
+#[derive(Clone, Copy)]
+pub struct Lent<'a> {
+    pub cells: &'a [i32],
+    pub h: usize,
+    pub w: usize,
+    pub ghost present: { Present cells.now h w },
+}
 
 // Whether the cell at p is opaque.
 #[tactic(auto, unfolding(rules::specs::Regions::opaque, rules::specs::Regions::at))]
@@ -22,35 +31,7 @@ fn any_solid(cells: &[i32], from: usize, step: usize, count: usize) -> bool
     requires { (i : ℕ) → i < count → from + i * step < length cells.now }
     ensures { result ≡ any count (λ i. opaque cells.now (from + i * step)) }
 {
-    for i in 0..count {
-        let p = from + i * step;
-        if solid(cells, p) {
-            return true;
-        }
-    }
-    false
-}
-
-// Whether an opaque cell touches an edge.
-pub fn touches_edge(cells: &[i32], h: usize, w: usize) -> bool
-    requires { Present cells.now h w }
-    ensures { result ≡ touches (sheet_of cells.now h w) }
-{
-    let n = h * w;
-    if n == 0 {
-        return false;
-    }
-    if any_solid(cells, 0, 1, w) {
-        return true;
-    }
-    let last = n - w;
-    if any_solid(cells, last, 1, w) {
-        return true;
-    }
-    if any_solid(cells, 0, w, h) {
-        return true;
-    }
-    any_solid(cells, w - 1, w, h)
+    (0..count).any(|i| solid(cells, from + i * step))
 }
 
 // Whether a is from 1 to len.
@@ -69,16 +50,38 @@ fn on_sheet(h: usize, w: usize, y: usize, x: usize) -> bool
     from_one(h, y) && from_one(w, x)
 }
 
-// The cell in row y and column x of the sheet with one cell of -1 on every side.
-fn padded_cell(cells: &[i32], h: usize, w: usize, y: usize, x: usize) -> i32
-    requires { Present cells.now h w }
-    ensures { result ≡ cond (on_sheet h w y x) (at cells.now ((y - 1) * w + (x - 1))) (negsuc 0) }
-{
-    if on_sheet(h, w, y, x) {
-        let from = (y - 1) * w + (x - 1);
-        cells[from]
-    } else {
-        -1
+impl Lent<'_> {
+    ghost use Rattle.rules.specs.Outline.{touches};
+    ghost use Rattle.outline.specs.Standing.{sheet_on};
+
+    // Whether an opaque cell touches an edge.
+    pub fn touches_edge(self) -> bool
+        ensures { result ≡ touches (sheet_on self.entry) }
+    {
+        let Lent { cells, h, w } = self;
+        let n = h * w;
+        if n == 0 {
+            return false;
+        }
+        let last = n - w;
+        any_solid(cells, 0, 1, w)
+            || any_solid(cells, last, 1, w)
+            || any_solid(cells, 0, w, h)
+            || any_solid(cells, w - 1, w, h)
+    }
+
+    // The cell in row y and column x of the sheet with one cell of -1 on every side.
+    #[tactic(auto, using(crate::proofs::Padding::on_there), unfolding(crate::specs::Room::on_sheet, crate::specs::Room::from_one))]
+    fn padded_cell(self, y: usize, x: usize) -> i32
+        requires { x < self.w + 2 }
+        ensures { result ≡ padded_at (sheet_on self.entry) (y * (self.entry.w + 2) + x) }
+    {
+        if on_sheet(self.h, self.w, y, x) {
+            let from = (y - 1) * self.w + (x - 1);
+            self.cells[from]
+        } else {
+            -1
+        }
     }
 }
 
@@ -89,7 +92,8 @@ fn pad_cell(cells: &mut [i32], h: usize, w: usize, y: usize, x: usize)
     ensures { cells.new ≡ set cells.old (y * (w + 2) + x) (padded_at (sheet_of cells.old h w) (y * (w + 2) + x)) }
 {
     let p = y * (w + 2) + x;
-    let c = padded_cell(cells, h, w, y, x);
+    let on = Lent { cells, h, w };
+    let c = on.padded_cell(y, x);
     cells[p] = c;
 }
 

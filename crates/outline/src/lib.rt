@@ -15,6 +15,7 @@ ghost use Rattle.refusals.specs.Room.{Room};
 ghost use Rattle.outline.specs.Room.{Present};
 ghost use Rattle.outline.specs.Drawing.{Drew};
 
+use crate::canvas::Lent;
 use base::Refusal;
 use refusals::{palette_refusal, sheet_refusal};
 use rules::{Drawing, Facts, Outline, Size};
@@ -33,23 +34,17 @@ fn draw(
     requires palette_len { (length palette.old ≡ 768) × (k ≤ 256) × (size.h * size.w ≤ length work.old) }
     ensures { Drew (drawn (λ i. true) how (palette_of palette.old k) clipped (sheet_of cells.old size.h size.w)) cells.old result cells.new palette.new }
 {
-    let h = size.h;
-    let w = size.w;
-    if !ring::has_ring(cells, h, w) {
-        return Facts {
-            height: h,
-            width: w,
-            colours: k,
-            outline_index: None,
-            outline_clipped: clipped,
-        };
+    let Size { h, w } = size;
+    let on = Lent { cells, h, w };
+    if !on.has_ring() {
+        return Facts::without_outline(size, k, clipped);
     }
     let outline = how.outline;
     let c = outline_entry::outline_color_lab(palette, k, outline);
     let chosen = outline_entry::choose(palette, k, c, how.fixed_palette);
     let index = chosen.index;
-    ring::mark_ring(cells, h, w, work);
-    ring::ink(cells, h * w, work, index);
+    on.mark_ring(work);
+    ring::ink(&mut cells[..h * w], work, index);
     Facts {
         height: h,
         width: w,
@@ -72,9 +67,9 @@ pub fn outline_sheet(
     requires palette_len { (length palette.old ≡ 768) × (k ≤ 256) }
     ensures { Drew (outline (λ i. true) how (palette_of palette.old k) (sheet_of cells.old size.h size.w)) cells.old result cells.new palette.new }
 {
-    let h = size.h;
-    let w = size.w;
-    let touched = canvas::touches_edge(cells, h, w);
+    let Size { h, w } = size;
+    let on = Lent { cells, h, w };
+    let touched = on.touches_edge();
     let clipped = touched & !how.allow_pad;
     if !rows::pads(how, touched) {
         return draw(cells, size, palette, k, how, clipped, work);
@@ -110,7 +105,8 @@ pub fn add_outline(
     let padding = rows::padding(cells, h, w, how);
     sheet_refusal(h, w, padding, cells.len(), work.len())?;
     palette_refusal(palette, k, rows::bad_outline(outline))?;
-    if rows::no_entry(cells, h, w, k, how, padding) {
+    let on = Lent { cells, h, w };
+    if on.no_entry(k, how, padding) {
         return Err(Refusal::NoEntries);
     }
     Ok(outline_sheet(cells, Size { h, w }, palette, k, how, work))

@@ -7,8 +7,7 @@ ghost use Rattle.rules.specs.Rows.{is_auto, no_entry};
 ghost use Rattle.rules.specs.Entries.{bad_outline};
 ghost use Rattle.outline.specs.Room.{Present, present};
 
-use crate::canvas::touches_edge;
-use crate::ring::has_ring;
+use crate::canvas::Lent;
 use refusals::{bad_darkening, too_large};
 use rules::{Drawing, Outline};
 
@@ -45,7 +44,8 @@ pub fn padding(cells: &[i32], h: usize, w: usize, how: Drawing) -> bool
     if !present(h, w, cells.len()) {
         return false;
     }
-    pads(how, touches_edge(cells, h, w))
+    let on = Lent { cells, h, w };
+    pads(how, on.touches_edge())
 }
 
 // Row 6: no outline is asked for, or its darkening is out of range.
@@ -68,20 +68,21 @@ fn needs_entry(how: Drawing) -> bool
     }
 }
 
-// Row 8. A sheet that is to be padded has a ring, since an edge is touched.
-pub fn no_entry(cells: &[i32], h: usize, w: usize, k: usize, how: Drawing, padding: bool) -> bool
-    requires present { Present cells.now h w }
-    requires w_value { padding ≡ true → touches (sheet_of cells.now h w) ≡ true }
-    ensures { result ≡ (no_entry how (palette_of [] k) (canvas padding (sheet_of cells.now h w))).applies }
-{
-    if k != 0 {
-        return false;
+impl Lent<'_> {
+    ghost use Rattle.rules.specs.Outline.{touches, canvas};
+    ghost use Rattle.outline.specs.Standing.{sheet_on};
+
+    // Row 8. A sheet that is to be padded has a ring, since an edge is touched.
+    pub fn no_entry(self, k: usize, how: Drawing, padding: bool) -> bool
+        requires { padding ≡ true → touches (sheet_on self) ≡ true }
+        ensures { result ≡ (no_entry how (palette_of [] k) (canvas padding (sheet_on self.entry))).applies }
+    {
+        if k != 0 {
+            return false;
+        }
+        if !needs_entry(how) {
+            return false;
+        }
+        padding || self.has_ring()
     }
-    if !needs_entry(how) {
-        return false;
-    }
-    if padding {
-        return true;
-    }
-    has_ring(cells, h, w)
 }

@@ -1,9 +1,9 @@
 -- The steps of an accepted `run`, one after the other: what each may rely on, and that together they are the rule. Assumes nothing.
-use Prim.Native.Nat.{ℕ, ◌*◌, ◌≤◌}
+use Prim.Native.Nat.{ℕ, ◌*◌, ◌≤◌, ◌<◌}
 use mathlib.Core.Path.{◌≡◌, refl, sym, ap, ◌∙◌, subst}
 use mathlib.Core.Bool.{Bool, true, false, ◌||◌, cond}
 use mathlib.Core.List.{List}
-use Rattle.std.specs.Prelude.{None, Some, Result, Ok, Err}
+use Rattle.std.specs.Prelude.{None, Some, IfSome, Result, Ok, Err}
 use native.Mathlib.Omega.{arith}
 use lib.IntN.{ℤ, pos}
 use lib.Signed.{le_z}
@@ -26,7 +26,7 @@ use Rattle.rules.specs.Run.{CleanedSheet, clean_sheet_if, limits_of, toned, tone
 use Rattle.rules.specs.Rows.{bad_index, no_entry}
 use Rattle.rules.specs.Entries.{facts_of, run_refusal, run_answer, run_cells, run_palette}
 use Rattle.rules.proofs.Sizes.{needed-least, canvas-area, canvas_sides, toned-count, toned-length}
-use Rattle.rules.proofs.Opacity.{Alike, trans, cleaned-alike, cut-alike, pads-same, ring-same, canvas-alike, Shown, line-shown}
+use Rattle.rules.proofs.Opacity.{Alike, trans, cleaned-alike, cut-alike, pads-same, ring-same, canvas-alike, Shown, met_shown}
 use Rattle.orphans.specs.Entry.{Fit}
 use Rattle.outline.specs.Drawing.{Drew}
 use Rattle.refusals.specs.Room.{Room}
@@ -48,12 +48,13 @@ ring-alike {s} {t} k = ap (λ (n : ℕ). any n (ring t)) (area_same k) ∙ any_s
 abbrev pub Met : RunCall → Result Processed Refusal → List ℤ → List Float → Type 0
 Met x answer cells lab = (answer ≡ run_answer x) × (cells ≡ run_cells x) × (lab ≡ run_palette x)
 
--- what an accepted call leaves, with so many cells lent: sides and colours in range, cells within the lent ones, and all doubles
+-- what an accepted call leaves, with so many cells lent: sides and colours in range, an entry's index if any, cells within the lent ones, and all doubles
 pub record Left (r : Processing) (lent : ℕ) : Type 0 where
   pub high : r.sheet.height ≤ 514
   pub wide : r.sheet.width ≤ 514
   pub held : r.sheet.height * r.sheet.width ≤ lent
   pub few : r.palette.count ≤ 256
+  pub index : IfSome r.index (λ i. i < r.palette.count)
   pub full : length r.palette.lab ≡ 768
 
 -- a call that is refused leaves both lists
@@ -118,11 +119,11 @@ module _ (x : RunCall) where
   fit {s} {p} {cells} {h} {w} {lab} {k} a c y =
       let e : h * w ≡ s.height * s.width = ap area a.sheet in
       record {
-        rows = subst (λ (n : ℕ). n ≤ 514) (sym (ap (λ (t : Sheet). t.height) a.sheet)) c.rows;
-        cols = subst (λ (n : ℕ). n ≤ 514) (sym (ap (λ (t : Sheet). t.width) a.sheet)) c.cols;
+        rows = rw (ap (λ (t : Sheet). t.height) a.sheet) c.rows;
+        cols = rw (ap (λ (t : Sheet). t.width) a.sheet) c.cols;
         reads = sized a;
         planes = omega (arith, e, c.planes);
-        entries = subst (λ (n : ℕ). n ≤ 256) (sym (ap (λ (q : Palette). q.count) a.palette)) c.entries;
+        entries = rw (ap (λ (q : Palette). q.count) a.palette) c.entries;
         doubles = ap (λ (q : Palette). length q.lab) a.palette ∙ c.doubles;
         known = reads a (λ t q. (bad_index true x.config.orphan_min_region q t).applies) ∙ row_clear true x.config.orphan_min_region p s (λ z l. c.known y l);
       }
@@ -237,18 +238,17 @@ module _ (x : RunCall) where
     unfolding outlined_run
     lined_cut = lined (λ i. true) (drawing_of x) ink cut (omega (arith, g.few, ink-count)) entry-cut
 
-    shown-cut : Shown (asked x.config.outline) (canvas (padding x) cut) line.sheet
-    unfolding outlined_run drawing_of
-    shown-cut =
-        subst (λ (b : Bool). Shown (asked x.config.outline) (canvas b cut) line.sheet) pads-cut (line-shown (λ i. true) (drawing_of x) ink cut alike-cut.full)
-
-    cut-area : area cut ≡ h * w
-    unfolding area sheet_of
-    cut-area = rw (alike-cut.height, alike-cut.width)
+    shown : Shown (asked x.config.outline) (canvas (padding x) came) line.sheet
+    shown = met_shown x start.full
 
     line-area : area line.sheet ≡ needed h w (padding x)
     unfolding area sheet_of
-    line-area = rw (shown-cut.height, shown-cut.width) (canvas-area (padding x) cut ∙ rw (alike-cut.height, alike-cut.width))
+    line-area = rw (shown.height, shown.width) (canvas-area (padding x) came)
+
+    -- no fewer cells than before
+    grown : area cut ≤ area line.sheet
+    unfolding area sheet_of
+    grown = rw (alike-cut.height, alike-cut.width) (omega (arith, line-area, needed-least h w (padding x)))
 
     -- facts of an outlined sheet
     abbrev pub Told : Facts → Type 0
@@ -266,7 +266,7 @@ module _ (x : RunCall) where
       pub line_holds : Holds x.lent.cells line.sheet line.palette new facts.height facts.width doubles facts.colours
       unfolding facts_of
       line_holds =
-          let n = stands_next a.stands drew.cells shown-cut.full (omega (arith, line-area, cut-area, needed-least h w (padding x))) (omega (arith, line-area, g.room.held)) in
+          let n = stands_next a.stands drew.cells shown.full grown (omega (arith, line-area, g.room.held)) in
           record {
             stands = n;
             sheet = stands_sheet facts.height facts.width n (sym (ap (λ (f : Facts). f.height) line-told)) (sym (ap (λ (f : Facts). f.width) line-told));
@@ -277,12 +277,10 @@ module _ (x : RunCall) where
     cleanable_line : Cleanable line.sheet line.palette
     unfolding sheet_of
     cleanable_line =
-        let h : cut.height ≤ 512 = subst (λ (n : ℕ). n ≤ 512) (sym alike-cut.height) g.room.high in
-        let w : cut.width ≤ 512 = subst (λ (n : ℕ). n ≤ 512) (sym alike-cut.width) g.room.wide in
-        let k = canvas_sides (padding x) cut h w in
+        let k = canvas_sides (padding x) came g.room.high g.room.wide in
         record {
-          rows = subst (λ (n : ℕ). n ≤ 514) (sym shown-cut.height) k.0;
-          cols = subst (λ (n : ℕ). n ≤ 514) (sym shown-cut.width) k.1;
+          rows = rw shown.height k.0;
+          cols = rw shown.width k.1;
           planes = omega (arith, line-area, g.room.free);
           entries = lined_cut.few;
           doubles = lined_cut.full ∙ ink-length;
@@ -291,16 +289,17 @@ module _ (x : RunCall) where
 
     alike-second : Alike line.sheet second
     unfolding second_cleaning
-    alike-second = cleaned-alike (cleans_again x.config) 1 line.palette limits line.sheet shown-cut.full
+    alike-second = cleaned-alike (cleans_again x.config) 1 line.palette limits line.sheet shown.full
 
     pub left : Left (process x) (length x.lent.cells)
     unfolding process second_cleaning area
     left =
         record {
-          high = subst (λ (n : ℕ). n ≤ 514) (sym alike-second.height) cleanable_line.rows;
-          wide = subst (λ (n : ℕ). n ≤ 514) (sym alike-second.width) cleanable_line.cols;
+          high = rw alike-second.height cleanable_line.rows;
+          wide = rw alike-second.width cleanable_line.cols;
           held = rw (alike-second.height, alike-second.width) (omega (arith, line-area, g.room.held));
           few = cleanable_line.entries;
+          index = lined_cut.index;
           full = cleanable_line.doubles;
         }
 

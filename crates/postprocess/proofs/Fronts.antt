@@ -1,12 +1,20 @@
 -- A sheet at the front of a lent list, and sheets written over it one after the other. Assumes nothing.
-use Prim.Native.Nat.{ℕ, ◌-◌, ◌+◌, ◌*◌, ◌≤◌}
-use mathlib.Core.Path.{◌≡◌, sym, ap, ◌∙◌}
-use mathlib.Core.List.{List, ◌++◌}
+use Prim.Native.Nat.{ℕ, zero, suc, ◌*◌, ◌≤◌}
+use mathlib.Core.Path.{◌≡◌, refl, sym, ap, ◌∙◌}
+use mathlib.Core.List.{List, [], ◌∷◌, ◌++◌}
 use native.Mathlib.Omega.{arith}
 use lib.IntN.{ℤ}
-use lib.ListN.{length, take, drop, length-append, length-drop, take-append-drop}
-use lib.Seq.{length-take-le, take_at, drop-append-add, drop-drop}
+use lib.ListN.{length, take, drop, length-append, length-drop}
+use lib.Seq.{length-take-le, take_at}
+use Rattle.std.proofs.lemmas.Slice.{drop-append-drop}
 use Rattle.rules.specs.Sheet.{Sheet, area, sheet_of, over}
+
+-- the front of a list, written over the list, leaves it
+pub over_same : (n : ℕ) (l : List ℤ) → l ≡ over (take n l) l
+unfolding over
+over_same zero l = refl
+over_same (suc n) [] = refl
+over_same (suc n) (z ∷ l) = ap (λ (t : List ℤ). z ∷ t) (over_same n l)
 
 -- the list at entry, with a sheet written over its front
 pub record Stands (old : List ℤ) (s : Sheet) (new : List ℤ) : Type 0 where
@@ -15,10 +23,8 @@ pub record Stands (old : List ℤ) (s : Sheet) (new : List ℤ) : Type 0 where
   pub is : new ≡ over s.cells old
 
 pub stands_start : (old : List ℤ) (h w : ℕ) → h * w ≤ length old → Stands old (sheet_of old h w) old
-unfolding sheet_of area over
-stands_start old h w fits =
-    let e = length-take-le (h * w) old fits in
-    record { full = e; fits = fits; is = sym (ap (λ (n : ℕ). take (h * w) old ++ drop n old) e ∙ take-append-drop (h * w) old) }
+unfolding sheet_of area
+stands_start old h w fits = record { full = length-take-le (h * w) old fits; fits = fits; is = over_same (h * w) old }
 
 over-length : (a l : List ℤ) → length a ≤ length l → length (over a l) ≡ length l
 unfolding over
@@ -38,13 +44,7 @@ stands_sheet {old} {s} {new} h w a e f =
 -- a list that is no shorter, written over what was written
 over_again : (a b l : List ℤ) → length a ≤ length b → over b (over a l) ≡ over b l
 unfolding over
-over_again a b l h =
-    let e : length a + (length b - length a) ≡ length b = omega arith in
-    ap (λ (x : List ℤ). b ++ x)
-    (ap (λ (n : ℕ). drop n (a ++ drop (length a) l)) (sym e)
-    ∙ drop-append-add a (drop (length a) l) (length b - length a)
-    ∙ drop-drop (length b - length a) (length a) l
-    ∙ ap (λ (n : ℕ). drop n l) e)
+over_again a b l h = ap (λ (x : List ℤ). b ++ x) (drop-append-drop (length a) l a (length b) h refl)
 
 -- another sheet, of no fewer cells, written over it
 pub stands_next : {old : List ℤ} {s t : Sheet} {now new : List ℤ} → Stands old s now → new ≡ over t.cells now

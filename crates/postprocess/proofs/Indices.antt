@@ -1,5 +1,5 @@
 -- The steps of `run` keep every cell's index among the palette's entries. Assumes nothing.
-use Prim.Native.Nat.{ℕ, zero, suc, ◌+◌, ◌-◌, ◌*◌, ◌/◌, ◌%◌, ◌≤◌, ◌<◌}
+use Prim.Native.Nat.{ℕ, ◌+◌, ◌-◌, ◌*◌, ◌/◌, ◌%◌, ◌≤◌, ◌<◌}
 use mathlib.Core.Path.{◌≡◌, refl, ap, ◌∙◌}
 use mathlib.Core.Bool.{Bool, true, false, ◌&&◌, ◌||◌, cond}
 use mathlib.Core.List.{List, [], ◌∷◌}
@@ -16,16 +16,16 @@ use Rattle.base.proofs.Counting.{case, clash, left, right, no_leb, any_no, any_y
 use Rattle.rules.specs.declared.Limits.{Limits}
 use Rattle.rules.specs.Sheet.{Sheet, area}
 use Rattle.rules.specs.Palette.{Palette}
-use Rattle.rules.specs.Regions.{Symmetric, at, here}
-use Rattle.rules.specs.Pass.{Rule, State, fates, pass, repaints, moves, fresh, clean}
+use Rattle.rules.specs.Regions.{Symmetric, at}
+use Rattle.rules.specs.Pass.{Rule, State, fresh, clean}
+use Rattle.rules.specs.Claims.{repaintings}
 use Rattle.rules.specs.Grid.{step_to}
 use Rattle.rules.specs.Corners.{Corner, corners, look, opposite, is_corner, trimmed_by, trimmed, trim}
 use Rattle.rules.specs.Outline.{padded_at, padded, canvas, ring, inked}
 use Rattle.rules.specs.Run.{rule_on, rule_for, clean_sheet, clean_sheet_if}
 use Rattle.rules.specs.Rows.{bad_index}
 use Rattle.rules.proofs.Grids.{eight_symmetric}
-use Rattle.rules.proofs.Passes.{pass-length, repainted, unpainted_kept}
-use Rattle.rules.proofs.Runs.{clean_go, clean_stop}
+use Rattle.rules.proofs.Runs.{run_kept, run_source}
 
 -- every cell names an entry below k, or is transparent
 pub record Named (k : ℕ) (cells : List ℤ) : Type 0 where
@@ -61,24 +61,15 @@ named_more {k} {n} {cells} h a = record { below = λ p. more (at cells p) (a.bel
     more (pos i) e = lt-leb n i (omega (arith, no_leb {m = k} {n = i} e))
     more (negsuc i) e = refl
 
--- ---- cleaning: a cell after it is one of the cells before
+-- ---- cleaning: a cell after it is as one of the cells before
 
-module _ (rule : Rule) (symm : Symmetric rule.adj) where
-  pass_source : (s : State) → length s.cells ≡ rule.places → (x : ℕ) → (y : ℕ) × (at (pass rule s).cells x ≡ at s.cells y)
-  pass_source s len x =
-      case (repaints rule s x)
-      (λ y. let r = repainted rule symm s len x y in (r.from, r.takes x (here r.was)))
-      (λ z. (x, unpainted_kept rule symm s len x z))
-
-  clean_source : (k : ℕ) (s : State) → length s.cells ≡ rule.places → (x : ℕ) → (y : ℕ) × (at (clean rule k s).state.cells x ≡ at s.cells y)
-  unfolding clean
-  clean_source zero s len x = (x, refl)
-  clean_source (suc k) s len x =
-      case (moves rule (fates rule s))
-      (λ y. rw (clean_go rule k s y)
-      (let a = clean_source k (pass rule s) (pass-length rule symm s len) x in
-      let b = pass_source s len a.0 in (b.0, a.1 ∙ b.1)))
-      (λ z. rw (clean_stop rule k s z) (pass_source s len x))
+-- a cell after it was repainted, and has an index that was there before, or was kept
+clean_source : (rule : Rule) → Symmetric rule.adj → (k : ℕ) (s : State) → length s.cells ≡ rule.places → (x : ℕ)
+    → (y : ℕ) × (at (clean rule k s).state.cells x ≡ at s.cells y)
+clean_source rule symm k s len x = elim (dec_lt 0 (repaintings rule k s x)) [
+  | yes h ↦ (let w = (run_source rule symm k s len x h).1 in (w.0, w.2))
+  | no h ↦ (x, run_kept rule symm k s len x (omega arith))
+]
 
 pub cleaned_named : (on : Bool) (k : ℕ) (palette : Palette) (limits : Limits) (s : Sheet) {n : ℕ} → length s.cells ≡ area s → Named n s.cells → Named n (clean_sheet_if on k palette limits s).sheet.cells
 unfolding clean_sheet_if clean_sheet rule_for rule_on fresh

@@ -3,4 +3,3 @@ pub mod Fronts
 pub mod Holding
 pub mod Indices
 pub mod Lines
-pub mod Switched

@@ -2,13 +2,11 @@
 use Prim.Native.Nat.{ℕ, ◌≤◌, ◌<◌}
 use mathlib.Core.Path.{◌≡◌, refl}
 use mathlib.Core.Bool.{Bool, true, false, ◌&&◌, ◌||◌, cond}
-use mathlib.Core.List.{List}
-use Rattle.std.specs.Prelude.{Option, None, Some}
+use Rattle.std.specs.Prelude.{Option, None, Some, IfSome}
 use native.Mathlib.Nat.{le_refl}
 use native.Mathlib.Decide.{dec_lt}
 use native.Mathlib.Omega.{arith}
 use lib.Dec.{ltb, eqb}
-use lib.Ieee.{Float}
 use lib.ListN.{length, length-set}
 use borrow.Author.Tests.{ltb-true, ltb-false, eq-eqb}
 use Rattle.color.specs.declared.Lab.{Lab}
@@ -26,10 +24,6 @@ use Rattle.postprocess.proofs.Indices.{Named, named_more, canvas_named, inked_na
 
 -- ---- the choice of an entry
 
-recoloured-length : (lab : List Float) (i : ℕ) (c : Lab) → length (recoloured lab i c) ≡ length lab
-unfolding recoloured
-recoloured-length lab i c = simp length-set
-
 -- a palette after a choice, with the index that it gives
 pub record Entered (old new : Palette) (i : ℕ) : Type 0 where
   pub below : i < new.count
@@ -37,45 +31,50 @@ pub record Entered (old new : Palette) (i : ℕ) : Type 0 where
   pub few : new.count ≤ 256
   pub full : length new.lab ≡ length old.lab
 
--- a choice that can be made
-data Made (palette : Palette) : Choice → Type 0 where
-  reused : {i : ℕ} → i < palette.count → Made palette (reuse i)
-  appended : palette.count < 256 → Made palette append
-  replaced : {i : ℕ} → i < palette.count → Made palette (replace i)
+module _ (palette : Palette) (c : Lab) (few : palette.count ≤ 256) where
+  abbrev Chosen : Choice → Type 0
+  Chosen ch = Entered palette (chosen_palette palette c ch) (chosen_index palette ch)
 
-made_entered : (palette : Palette) (c : Lab) (ch : Choice) → palette.count ≤ 256 → Made palette ch → Entered palette (chosen_palette palette c ch) (chosen_index palette ch)
-unfolding chosen_palette chosen_index
-made_entered palette c (reuse i) few (reused h) = record { below = h; more = le_refl _; few = few; full = refl }
-made_entered palette c append few (appended h) =
-    record { below = omega arith; more = omega arith; few = omega arith; full = recoloured-length palette.lab palette.count c }
-made_entered palette c (replace i) few (replaced h) = record { below = h; more = le_refl _; few = few; full = recoloured-length palette.lab i c }
+  -- each way of a choice that can be made
+  reused : {i : ℕ} → i < palette.count → Chosen (reuse i)
+  unfolding chosen_palette chosen_index
+  reused h = record { below = h; more = le_refl _; few = few; full = refl }
 
-nearest_in : (may : ℕ → Bool) (palette : Palette) (c : Lab) → 0 < palette.count → nearest_entry may palette c < palette.count
-unfolding nearest_entry
-nearest_in may palette c h = chosen_below (first_least may _ palette.count) palette.count h (λ b e. (least_some may _ palette.count b e).0)
+  appended : palette.count < 256 → Chosen append
+  unfolding chosen_palette chosen_index recoloured
+  appended h = record { below = omega arith; more = omega arith; few = omega arith; full = simp length-set }
 
-made : (may : ℕ → Bool) (fixed : Bool) (palette : Palette) (c : Lab) → (fixed ≡ true → 0 < palette.count) → Made palette (choice may fixed palette c)
-unfolding choice
-made may true palette c f = reused (nearest_in _ palette c (f refl))
-made may false palette c f = go (first_where same palette.count) (where_below same palette.count)
-  where
-    same : ℕ → Bool
-    same i = same_rgb8 (lab_to_rgb8 (colour palette i)) (lab_to_rgb8 c)
+  replaced : {i : ℕ} → i < palette.count → Chosen (replace i)
+  unfolding chosen_palette chosen_index recoloured
+  replaced h = record { below = h; more = le_refl _; few = few; full = simp length-set }
 
-    room : (b : Bool) → ltb palette.count 256 ≡ b → Made palette (cond b append (replace (nearest_entry may palette c)))
-    room true e = appended (ltb-true palette.count 256 e)
-    room false e = replaced (nearest_in may palette c (omega (arith, ltb-false palette.count 256 e)))
+  nearest_in : (may : ℕ → Bool) → 0 < palette.count → nearest_entry may palette c < palette.count
+  unfolding nearest_entry
+  nearest_in may h = chosen_below (first_least may _ palette.count) palette.count h (λ b e. (least_some may _ palette.count b e).0)
 
-    go : (o : Option ℕ) → ((b : ℕ) → o ≡ Some b → b < palette.count)
-        → Made palette (elim o [ Some i ↦ reuse i | None ↦ cond (ltb palette.count 256) append (replace (nearest_entry may palette c)) ])
-    go None g = room (ltb palette.count 256) refl
-    go (Some i) g = reused (g i refl)
+  chosen : (may : ℕ → Bool) (fixed : Bool) → (fixed ≡ true → 0 < palette.count) → Chosen (choice may fixed palette c)
+  unfolding choice
+  chosen may true f = reused (nearest_in _ (f refl))
+  chosen may false f = go (first_where same palette.count) (where_below same palette.count)
+    where
+      same : ℕ → Bool
+      same i = same_rgb8 (lab_to_rgb8 (colour palette i)) (lab_to_rgb8 c)
+
+      room : (b : Bool) → ltb palette.count 256 ≡ b → Chosen (cond b append (replace (nearest_entry may palette c)))
+      room true e = appended (ltb-true palette.count 256 e)
+      room false e = replaced (nearest_in may (omega (arith, ltb-false palette.count 256 e)))
+
+      go : (o : Option ℕ) → ((b : ℕ) → o ≡ Some b → b < palette.count)
+          → Chosen (elim o [ Some i ↦ reuse i | None ↦ cond (ltb palette.count 256) append (replace (nearest_entry may palette c)) ])
+      go None g = room (ltb palette.count 256) refl
+      go (Some i) g = reused (g i refl)
 
 -- ---- the outline call
 
--- the palette after it, and the cells' indices
+-- the palette after it, the outline's index, and the cells' indices
 pub record Lined (palette : Palette) (s : Sheet) (o : Outlined) : Type 0 where
   pub few : o.palette.count ≤ 256
+  pub index : IfSome o.index (λ i. i < o.palette.count)
   pub full : length o.palette.lab ≡ length palette.lab
   pub named : Named palette.count s.cells → Named o.palette.count o.sheet.cells
 
@@ -102,11 +101,12 @@ module _ (may : ℕ → Bool) (how : Drawing) (palette : Palette) (s : Sheet) (f
       case (asked how.outline)
       (λ y. case (has_ring on)
       (λ r. let c = line_colour palette how.outline in
-      let k = made_entered palette c (choice may fixed palette c) few (made may fixed palette c (an_entry z y r)) in
+      let k = chosen palette c few may fixed (an_entry z y r) in
       rw (y, r) (record {
         few = k.few;
+        index = k.below;
         full = k.full;
         named = λ a. inked_named on (named_more k.more (canvas_named s a _)) (chosen_index palette (choice may fixed palette c)) k.below;
       }))
-      (λ r. rw (y, r) (record { few = few; full = refl; named = λ a. canvas_named s a _ })))
-      (λ y. rw y (record { few = few; full = refl; named = λ a. a }))
+      (λ r. rw (y, r) (record { few = few; index = tt; full = refl; named = λ a. canvas_named s a _ })))
+      (λ y. rw y (record { few = few; index = tt; full = refl; named = λ a. a }))

@@ -12,7 +12,7 @@ ghost use Rattle.rules.specs.Entries.{run_answer, run_cells, run_palette};
 use crate::steps::{clean_again, clean_if, outline_if, tone_unless, trim_if};
 use base::Refusal;
 use rules::{PostConfig, Processed, Size};
-use run_refusals::{Options, drawing, kept, run_refusal};
+use run_refusals::{Options, run_refusal};
 
 // The passes of the first cleaning.
 pub const ORPHAN_MAX_PASSES: u32 = 5;
@@ -47,10 +47,10 @@ pub fn run(
     };
     run_refusal(cells, h, w, palette, k, o, work.len())?;
     let size = Size { h, w };
-    tone_unless(kept(saturated, fixed_palette), palette, k, config);
+    tone_unless(o.kept(), palette, k, config);
     let passes = clean_if(cells, size, palette, k, config, ORPHAN_MAX_PASSES, work);
     trim_if(cells, h, w, config, work);
-    let how = drawing(config, fixed_palette, outline_margin);
+    let how = o.drawing();
     let facts = outline_if(cells, size, palette, k, how, work);
     let again = clean_again(cells, facts, palette, config, work);
     Ok(Processed {

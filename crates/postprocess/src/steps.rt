@@ -17,6 +17,7 @@ use rules::{Drawing, Facts, Limits, PostConfig, Size};
 use saturation::scaling::saturate;
 
 // Saturates the palette, unless it is kept.
+#[tactic(auto, unfolding(rules::specs::Run::toned))]
 pub fn tone_unless(kept: bool, palette: &mut [f64], k: usize, config: PostConfig)
     requires { (3 * k ≤ length palette.old) × (k ≤ 256) }
     ensures { palette.new ≡ (toned kept config (palette_of palette.old k)).lab }
@@ -27,6 +28,7 @@ pub fn tone_unless(kept: bool, palette: &mut [f64], k: usize, config: PostConfig
 }
 
 // Cleans the sheet, if that is on, and answers how many passes repainted.
+#[tactic(auto, using(crate::proofs::Fronts::over_same), unfolding(rules::specs::Sheet::sheet_of, rules::specs::Run::clean_sheet_if, rules::specs::Run::limits_of))]
 pub fn clean_if(
     cells: &mut [i32],
     size: Size,
@@ -36,8 +38,7 @@ pub fn clean_if(
     max_passes: u32,
     work: &mut [u32],
 ) -> u32
-    requires w_in_bounds { size.h * size.w ≤ length cells.old }
-    requires fit { config.remove_orphans ≡ true → Fit cells.old size.h size.w palette.now k config.orphan_min_region (length work.old) }
+    requires { config.remove_orphans ≡ true → Fit cells.old size.h size.w palette.now k config.orphan_min_region (length work.old) }
     ensures value { result ≡ (clean_sheet_if config.remove_orphans max_passes (palette_of palette.now k) (limits_of config) (sheet_of cells.old size.h size.w)).passes }
     ensures cells_after { cells.new ≡ over (clean_sheet_if config.remove_orphans max_passes (palette_of palette.now k) (limits_of config) (sheet_of cells.old size.h size.w)).sheet.cells cells.old }
 {
@@ -52,6 +53,7 @@ pub fn clean_if(
 }
 
 // Trims corners, if that is on.
+#[tactic(auto, using(crate::proofs::Fronts::over_same), unfolding(rules::specs::Sheet::sheet_of))]
 pub fn trim_if(cells: &mut [i32], h: usize, w: usize, config: PostConfig, work: &mut [u32])
     requires { (h ≤ 512) × (w ≤ 512) × (h * w ≤ length cells.old) × (8 * (h * w) ≤ length work.old) }
     ensures { cells.new ≡ over (cond config.fix_jaggies (trim (sheet_of cells.old h w)) (sheet_of cells.old h w)).cells cells.old }
@@ -61,20 +63,8 @@ pub fn trim_if(cells: &mut [i32], h: usize, w: usize, config: PostConfig, work: 
     }
 }
 
-// The facts of a sheet without an outline.
-fn plain(h: usize, w: usize, k: usize) -> Facts
-    ensures { result ≡ record { height = h; width = w; colours = k; outline_index = None; outline_clipped = false } }
-{
-    Facts {
-        height: h,
-        width: w,
-        colours: k,
-        outline_index: None,
-        outline_clipped: false,
-    }
-}
-
 // Draws the outline, where one is asked for, and answers the facts of the sheet. The call was checked: there is room.
+#[tactic(auto, using(crate::proofs::Fronts::over_same), unfolding(rules::specs::Sheet::sheet_of, rules::specs::Run::outline_if, rules::specs::Entries::facts_of))]
 pub fn outline_if(
     cells: &mut [i32],
     size: Size,
@@ -87,14 +77,14 @@ pub fn outline_if(
     requires palette_len { (length palette.old ≡ 768) × (k ≤ 256) }
     ensures { Drew (outline_if (λ i. true) how (palette_of palette.old k) (sheet_of cells.old size.h size.w)) cells.old result cells.new palette.new }
 {
-    let outline = how.outline;
-    if !asked(outline) {
-        return plain(size.h, size.w, k);
+    if !asked(how.outline) {
+        return Facts::without_outline(size, k, false);
     }
     outline_sheet(cells, size, palette, k, how, work)
 }
 
 // Cleans the sheet once more, with one pass, after an outline call.
+#[tactic(auto, using(crate::proofs::Fronts::over_same), unfolding(rules::specs::Sheet::sheet_of, rules::specs::Run::clean_sheet_if, rules::specs::Run::cleans_again))]
 pub fn clean_again(
     cells: &mut [i32],
     facts: Facts,
@@ -102,19 +92,14 @@ pub fn clean_again(
     config: PostConfig,
     work: &mut [u32],
 ) -> u32
-    requires width_in_bounds { facts.height * facts.width ≤ length cells.old }
-    requires fit { config.remove_orphans ≡ true → Fit cells.old facts.height facts.width palette.now facts.colours config.orphan_min_region (length work.old) }
+    requires { config.remove_orphans ≡ true → Fit cells.old facts.height facts.width palette.now facts.colours config.orphan_min_region (length work.old) }
     ensures value { result ≡ (clean_sheet_if (cleans_again config) 1 (palette_of palette.now facts.colours) (limits_of config) (sheet_of cells.old facts.height facts.width)).passes }
     ensures cells_after { cells.new ≡ over (clean_sheet_if (cleans_again config) 1 (palette_of palette.now facts.colours) (limits_of config) (sheet_of cells.old facts.height facts.width)).sheet.cells cells.old }
 {
-    let outline = config.outline;
-    if !asked(outline) {
+    if !asked(config.outline) {
         return 0;
     }
-    let size = Size {
-        h: facts.height,
-        w: facts.width,
-    };
+    let size = facts.size();
     let k = facts.colours;
     clean_if(cells, size, palette, k, config, 1, work)
 }

@@ -1,20 +1,22 @@
 // The refusals of `run`: every row is judged before the first write.
 #![tactic(auto)]
 
-ghost use Rattle.std.specs.Prelude.{◌≡◌, ◌||◌, [], ◌≤◌, pos};
-ghost use Rattle.std.specs.Int.Signed.{le_z};
+ghost use Rattle.std.specs.Prelude.{◌≡◌, ◌||◌, [], ◌≤◌};
 ghost use Rattle.base.specs.Refusals.{refusal, answered};
-ghost use Rattle.rules.specs.Sheet.{lent_sheet, sheet_of};
+ghost use Rattle.rules.specs.Sheet.{lent_sheet};
 ghost use Rattle.rules.specs.Palette.{palette_of};
 ghost use Rattle.rules.specs.Run.{pad_allowed};
 ghost use Rattle.rules.specs.Rows.{palette_rows, bad_index};
 ghost use Rattle.rules.specs.Entries.{bad_ranges, bad_config, run_refusal};
-ghost use Rattle.outline.specs.Room.{Present};
+ghost use Rattle.outline.specs.Standing.{sheet_on};
 
 use base::Refusal;
-use outline::rows::{no_entry, padding};
-use refusals::{bad_darkening, bad_index, between, limit_in_range, palette_refusal, sheet_refusal};
-use rules::{Drawing, PostConfig};
+use outline::canvas::Lent;
+use outline::rows::padding;
+use refusals::{
+    bad_darkening, bad_index, between, limit_in_range, palette_refusal, sheet_refusal, some_small,
+};
+use rules::{Drawing, Entries, PostConfig};
 use saturation::scaling::scaled_too_far;
 
 // What `run` is told besides the sheet and the palette.
@@ -26,33 +28,34 @@ pub struct Options {
     pub outline_margin: i32,
 }
 
-// Whether the palette's colours are kept as they are.
-pub fn kept(saturated: bool, fixed_palette: bool) -> bool
-    ensures { result ≡ (saturated || fixed_palette) }
-{
-    saturated || fixed_palette
-}
-
-// Padding is allowed when tileset is off and the margin is 0.
-fn pad_allowed(config: PostConfig, outline_margin: i32) -> bool
-    ensures { result ≡ pad_allowed config outline_margin }
-{
-    if config.tileset {
-        return false;
+impl Options {
+    // Whether the palette's colours are kept as they are.
+    pub fn kept(self) -> bool
+        ensures { result ≡ (self.saturated || self.fixed_palette) }
+    {
+        self.saturated || self.fixed_palette
     }
-    outline_margin == 0
-}
 
-// How `run` draws its outline.
-pub fn drawing(config: PostConfig, fixed_palette: bool, outline_margin: i32) -> Drawing
-    ensures { result ≡ record { outline = config.outline; allow_pad = pad_allowed config outline_margin; fixed_palette = fixed_palette } }
-{
-    let outline = config.outline;
-    let allow_pad = pad_allowed(config, outline_margin);
-    Drawing {
-        outline,
-        allow_pad,
-        fixed_palette,
+    // Padding is allowed when tileset is off and the margin is 0.
+    #[tactic(auto, using(crate::proofs::Margins::zero_bits), unfolding(rules::specs::Run::pad_allowed))]
+    fn pad_allowed(self) -> bool
+        ensures { result ≡ pad_allowed self.config self.outline_margin }
+    {
+        if self.config.tileset {
+            return false;
+        }
+        self.outline_margin == 0
+    }
+
+    // How `run` draws its outline.
+    pub fn drawing(self) -> Drawing
+        ensures { result ≡ record { outline = self.config.outline; allow_pad = pad_allowed self.config self.outline_margin; fixed_palette = self.fixed_palette } }
+    {
+        Drawing {
+            outline: self.config.outline,
+            allow_pad: self.pad_allowed(),
+            fixed_palette: self.fixed_palette,
+        }
     }
 }
 
@@ -71,47 +74,30 @@ fn bad_ranges(config: PostConfig) -> bool
 }
 
 // Rows 4 to 6: the palette and the settings; and saturation, where it applies, carries no double out of range.
-fn settings_refusal(
-    palette: &[f64],
-    k: usize,
-    config: PostConfig,
-    kept: bool,
-) -> Result<(), Refusal>
-    ensures { result ≡ answered (refusal (palette_rows (palette_of palette.now k) (bad_config config kept (palette_of palette.now k)))) tt }
+fn settings_refusal(palette: &[f64], k: usize, o: Options) -> Result<(), Refusal>
+    ensures { result ≡ answered (refusal (palette_rows (palette_of palette.now k) (bad_config o.config (o.saturated || o.fixed_palette) (palette_of palette.now k)))) tt }
 {
-    palette_refusal(palette, k, bad_ranges(config))?;
+    palette_refusal(palette, k, bad_ranges(o.config))?;
     // Saturation scales a palette unless it is kept.
-    let scaled = !kept;
+    let scaled = !o.kept();
     if !scaled {
         return Ok(());
     }
-    if scaled_too_far(palette, k, config.saturation_beta) {
+    if scaled_too_far(Entries { lab: palette, k }, o.config.saturation_beta) {
         return Err(Refusal::SettingOutOfRange);
     }
     Ok(())
 }
 
-// Whether a region limit lets a pass repaint anything.
-fn limits(min_region: i32) -> bool
-    ensures { result ≡ le_z (pos 2) min_region }
-{
-    2 <= min_region
-}
-
 // Row 7: cleaning meets a cell that names no entry.
-fn bad_index_met(cells: &[i32], h: usize, w: usize, k: usize, config: PostConfig) -> bool
-    requires present { Present cells.now h w }
-    requires k_bound { k ≤ 256 }
-    ensures { result ≡ (bad_index config.remove_orphans config.orphan_min_region (palette_of [] k) (sheet_of cells.now h w)).applies }
+fn bad_index_met(on: Lent, k: usize, config: PostConfig) -> bool
+    requires { k ≤ 256 }
+    ensures { result ≡ (bad_index config.remove_orphans config.orphan_min_region (palette_of [] k) (sheet_on on.entry)).applies }
 {
     if !config.remove_orphans {
         return false;
     }
-    let min_region = config.orphan_min_region;
-    if !limits(min_region) {
-        return false;
-    }
-    bad_index(cells, h * w, k)
+    some_small(config.orphan_min_region) && bad_index(&on.cells[..on.h * on.w], k)
 }
 
 // All rows of `run`: what it refuses, if anything.
@@ -133,16 +119,15 @@ pub fn run_refusal(
       margin = o.outline_margin;
     })) tt }
 {
-    let config = o.config;
-    let how = drawing(config, o.fixed_palette, o.outline_margin);
+    let how = o.drawing();
     let padded = padding(cells, h, w, how);
     sheet_refusal(h, w, padded, cells.len(), work)?;
-    let kept = kept(o.saturated, o.fixed_palette);
-    settings_refusal(palette, k, config, kept)?;
-    if bad_index_met(cells, h, w, k, config) {
+    settings_refusal(palette, k, o)?;
+    let on = Lent { cells, h, w };
+    if bad_index_met(on, k, o.config) {
         return Err(Refusal::NoSuchEntry);
     }
-    if no_entry(cells, h, w, k, how, padded) {
+    if on.no_entry(k, how, padded) {
         return Err(Refusal::NoEntries);
     }
     Ok(())

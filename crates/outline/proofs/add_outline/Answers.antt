@@ -95,15 +95,17 @@ returns-in_err-palette_refusal c =
     let r : c.from_residual-in_err-palette_refusal.result ≡ Err c.in_err-palette_refusal.field-0.0 = search rules in
     rw r (met_refused _ _ (by_palette a.cells.now a.h a.w a.palette.now a.k a.outline a.allow_pad a.fixed_palette (length a.work.now) c.padding-padding.ensures c.in_ok-sheet_refusal.ensures c.bad_outline.ensures c.in_err-palette_refusal.ensures))
 
+pub invariant_of-on : goal.invariant_of-on
+invariant_of-on c =
+    let a = c.args in
+    record { present = seated _ a.cells.now (room a.cells.now a.h a.w a.palette.now a.k a.outline a.allow_pad a.fixed_palette (length a.work.now) c.padding-padding.ensures c.in_ok-sheet_refusal.ensures) }
+
 pub no_entry-requires : goal.no_entry-requires
 no_entry-requires c =
     let a = c.args in
-    record {
-      present = seated _ a.cells.now (room a.cells.now a.h a.w a.palette.now a.k a.outline a.allow_pad a.fixed_palette (length a.work.now) c.padding-padding.ensures c.in_ok-sheet_refusal.ensures);
-      w_value = λ y.
-          pad_touches _ _
-          (sym (padding-is a.cells.now a.h a.w a.palette.now a.k a.outline a.allow_pad a.fixed_palette (length a.work.now) c.padding-padding.ensures c.in_ok-sheet_refusal.ensures) ∙ y);
-    }
+    λ y.
+    pad_touches _ _
+    (sym (padding-is a.cells.now a.h a.w a.palette.now a.k a.outline a.allow_pad a.fixed_palette (length a.work.now) c.padding-padding.ensures c.in_ok-sheet_refusal.ensures) ∙ y)
 
 pub returns-then-no_entry : goal.returns-then-no_entry
 returns-then-no_entry c =

@@ -15,7 +15,6 @@ use Rattle.rules.specs.Sheet.{lent_sheet}
 use Rattle.rules.specs.Palette.{palette_of}
 use Rattle.rules.specs.Calls.{RunCall}
 use Rattle.rules.specs.Run.{pad_allowed, drawing_of}
-use Rattle.postprocess.proofs.Holding.{sized}
 use Rattle.postprocess.proofs.Chain.{met_refused, in_doubles, toned_holds, first_fit, first_passes, first_holds, trim_room, cut_holds, line_room, line-told, line_holds, second_fit, met_processed}
 use Rattle.postprocess.proofs.run.Goals as goal
 
@@ -56,7 +55,7 @@ clean_if-passes-requires c =
     let m = to_z-of_z {w = w32} c.ranges.outline_margin in
     let ok = answered_none (tt {0}) (rw m at c.in_ok-run_refusal.ensures) refl in
     let toned = toned_holds x ok c.kept.ensures c.tone_unless.ensures in
-    record { w_in_bounds = sized toned; fit = first_fit x ok toned }
+    first_fit x ok toned
 
 pub trim_if-requires : goal.trim_if-requires
 trim_if-requires c =
@@ -96,7 +95,7 @@ clean_again-again-requires c =
     let drew = rw how at c.outline_if-facts.ensures in
     let outlined = line_holds x ok trimmed drew in
     let room : length c.outline_if-facts.new.work ≡ length a.work.now = search rules in
-    record { width_in_bounds = sized outlined; fit = second_fit x ok outlined room }
+    second_fit x ok outlined room
 
 pub returns : goal.returns
 returns c =

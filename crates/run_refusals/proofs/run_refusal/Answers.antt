@@ -4,7 +4,7 @@ use mathlib.Core.Path.{◌≡◌, refl, sym, ap, ◌∙◌}
 use mathlib.Core.Bool.{Bool, true, false, ◌&&◌, ◌||◌}
 use mathlib.Core.List.{List, [], ◌∷◌}
 use Rattle.std.specs.Prelude.{None, Some, Result, Ok, Err}
-use Rattle.std.proofs.Common.{rules, arith, to_z-of_z, to_z, of_z, w32}
+use Rattle.std.proofs.Common.{rules}
 use lib.IntN.{ℤ}
 use lib.ListN.{length}
 use lib.Ieee.{Float}
@@ -28,11 +28,11 @@ use Rattle.run_refusals.specs.declared.Options.{Options}
 use Rattle.run_refusals.proofs.Refusing.{padding}
 use Rattle.run_refusals.proofs.run_refusal.Goals as goal
 
-module _ (k : RunCall) {margin : ℤ} (back : margin ≡ k.margin) {how : Drawing} (drawn : how ≡ record { outline = k.config.outline; allow_pad = pad_allowed k.config margin; fixed_palette = k.fixed }) where
+module _ (k : RunCall) {how : Drawing} (drawn : how ≡ record { outline = k.config.outline; allow_pad = pad_allowed k.config k.margin; fixed_palette = k.fixed }) where
   -- how its outline is drawn
   as_drawn : how ≡ drawing_of k
   unfolding drawing_of
-  as_drawn = drawn ∙ ap (λ (z : ℤ). record { outline = k.config.outline; allow_pad = pad_allowed k.config z; fixed_palette = k.fixed }) back
+  as_drawn = drawn
 
   -- ---- rows 1 to 3
   module _ {padded : Bool} (is : padded ≡ (present k.lent.height k.lent.width (length k.lent.cells) && pads how (sheet_in k.lent))) where
@@ -61,65 +61,62 @@ module _ (k : RunCall) {margin : ℤ} (back : margin ≡ k.margin) {how : Drawin
       touched y = pad_touches (drawing_of k) (sheet_in k.lent) (sym padding-is ∙ y)
 
       -- ---- rows 4 to 6
-      module _ {kept : Bool} (told : kept ≡ (k.saturated || k.fixed)) where
-        abbrev Settings : Bool → List Row
-        Settings b = palette_rows k.palette (bad_config k.config b k.palette)
+      abbrev Settings : List Row
+      Settings = palette_rows k.palette (bad_config k.config (k.saturated || k.fixed) k.palette)
 
-        by_settings : {n : Refusal} → ◌≡◌ {A = Result (Unit {0}) Refusal} (Err n) (answered (refusal (Settings kept)) tt) → run_refusal k ≡ Some n
+      by_settings : {n : Refusal} → ◌≡◌ {A = Result (Unit {0}) Refusal} (Err n) (answered (refusal Settings) tt) → run_refusal k ≡ Some n
+      unfolding run_refusal
+      by_settings e = rows_pass _ _ sheet_passes ∙ rows_hit _ _ (answered_some (tt {0}) e refl)
+
+      module _ (second : ◌≡◌ {A = Result (Unit {0}) Refusal} (Ok tt) (answered (refusal Settings) tt)) where
+        settings_pass : refusal Settings ≡ None
+        settings_pass = answered_none (tt {0}) second refl
+
+        few : k.palette.count ≤ 256
+        few = (palette_room _ settings_pass).0.few
+
+        -- ---- rows 7 and 8
+        abbrev seventh : Row
+        seventh = bad_index k.config.remove_orphans k.config.orphan_min_region k.palette (sheet_in k.lent)
+
+        abbrev eighth : Row
+        eighth = no_entry (drawing_of k) k.palette (canvas (padding k) (sheet_in k.lent))
+
+        past : run_refusal k ≡ refusal (seventh ∷ eighth ∷ [])
         unfolding run_refusal
-        by_settings e = rows_pass _ _ sheet_passes ∙ rows_hit _ _ (ap (λ (b : Bool). refusal (Settings b)) (sym told) ∙ answered_some (tt {0}) e refl)
+        past = rows_pass _ _ sheet_passes ∙ rows_pass _ _ settings_pass
 
-        module _ (second : ◌≡◌ {A = Result (Unit {0}) Refusal} (Ok tt) (answered (refusal (Settings kept)) tt)) where
-          settings_pass : refusal (Settings (k.saturated || k.fixed)) ≡ None
-          settings_pass = ap (λ (b : Bool). refusal (Settings b)) (sym told) ∙ answered_none (tt {0}) second refl
+        module _ {met : Bool} (index : met ≡ seventh.applies) where
+          by_index : met ≡ true → run_refusal k ≡ Some NoSuchEntry
+          unfolding bad_index
+          by_index y = past ∙ row_hit _ _ (sym index ∙ y)
 
-          few : k.palette.count ≤ 256
-          few = (palette_room _ settings_pass).0.few
+          module _ (z : met ≡ false) {none : Bool} (e : none ≡ (no_entry how (palette_of [] k.palette.count) (canvas padded (sheet_in k.lent))).applies) where
+            past_7 : run_refusal k ≡ refusal (eighth ∷ [])
+            past_7 = past ∙ row-pass _ _ (sym index ∙ z)
 
-          -- ---- rows 7 and 8
-          abbrev seventh : Row
-          seventh = bad_index k.config.remove_orphans k.config.orphan_min_region k.palette (sheet_in k.lent)
+            entry : none ≡ eighth.applies
+            unfolding no_entry
+            entry =
+                let on : Drawing → Bool → Bool = (λ d b. (no_entry d k.palette (canvas b (sheet_in k.lent))).applies) in
+                e ∙ ap (λ (d : Drawing). on d padded) as_drawn ∙ ap (on (drawing_of k)) padding-is
 
-          abbrev eighth : Row
-          eighth = no_entry (drawing_of k) k.palette (canvas (padding k) (sheet_in k.lent))
+            by_entry : none ≡ true → run_refusal k ≡ Some NoEntries
+            unfolding no_entry
+            by_entry y = past_7 ∙ row_hit _ _ (sym entry ∙ y)
 
-          past : run_refusal k ≡ refusal (seventh ∷ eighth ∷ [])
-          unfolding run_refusal
-          past = rows_pass _ _ sheet_passes ∙ rows_pass _ _ settings_pass
-
-          module _ {met : Bool} (index : met ≡ seventh.applies) where
-            by_index : met ≡ true → run_refusal k ≡ Some NoSuchEntry
-            unfolding bad_index
-            by_index y = past ∙ row_hit _ _ (sym index ∙ y)
-
-            module _ (z : met ≡ false) {none : Bool} (e : none ≡ (no_entry how (palette_of [] k.palette.count) (canvas padded (sheet_in k.lent))).applies) where
-              past_7 : run_refusal k ≡ refusal (eighth ∷ [])
-              past_7 = past ∙ row-pass _ _ (sym index ∙ z)
-
-              entry : none ≡ eighth.applies
-              unfolding no_entry
-              entry =
-                  let on : Drawing → Bool → Bool = (λ d b. (no_entry d k.palette (canvas b (sheet_in k.lent))).applies) in
-                  e ∙ ap (λ (d : Drawing). on d padded) as_drawn ∙ ap (on (drawing_of k)) padding-is
-
-              by_entry : none ≡ true → run_refusal k ≡ Some NoEntries
-              unfolding no_entry
-              by_entry y = past_7 ∙ row_hit _ _ (sym entry ∙ y)
-
-              accepted : none ≡ false → run_refusal k ≡ None
-              accepted n = past_7 ∙ row_last _ (sym entry ∙ n)
+            accepted : none ≡ false → run_refusal k ≡ None
+            accepted n = past_7 ∙ row_last _ (sym entry ∙ n)
 
 pub returns-in_err-sheet_refusal : goal.returns-in_err-sheet_refusal
 returns-in_err-sheet_refusal c =
     let r : c.from_residual.result ≡ Err c.in_err-sheet_refusal.field-0.0 = search rules in
-    let m : to_z w32 (of_z w32 c.args.o.outline_margin) ≡ c.args.o.outline_margin = grind (arith, to_z-of_z) in
-    r ∙ some_answered _ (by_sheet _ m c.drawing-how.ensures c.padding-padded.ensures c.in_err-sheet_refusal.ensures)
+    r ∙ some_answered _ (by_sheet _ c.drawing-how.ensures c.padding-padded.ensures c.in_err-sheet_refusal.ensures)
 
 pub returns-in_err-settings_refusal : goal.returns-in_err-settings_refusal
 returns-in_err-settings_refusal c =
     let r : c.from_residual-in_err-settings_refusal.result ≡ Err c.in_err-settings_refusal.field-0.0 = search rules in
-    let m : to_z w32 (of_z w32 c.args.o.outline_margin) ≡ c.args.o.outline_margin = grind (arith, to_z-of_z) in
-    r ∙ some_answered _ (by_settings _ m c.drawing-how.ensures c.padding-padded.ensures c.in_ok-sheet_refusal.ensures c.kept-kept.ensures c.in_err-settings_refusal.ensures)
+    r ∙ some_answered _ (by_settings _ c.drawing-how.ensures c.padding-padded.ensures c.in_ok-sheet_refusal.ensures c.in_err-settings_refusal.ensures)
 
 abbrev called : List ℤ → ℕ → ℕ → List Float → ℕ → Options → ℕ → RunCall
 called cells h w lab k o work =
@@ -132,46 +129,41 @@ called cells h w lab k o work =
       margin = o.outline_margin;
     }
 
+pub invariant_of-on : goal.invariant_of-on
+invariant_of-on c =
+    let a = c.args in
+    let k = called a.cells.now a.h a.w a.palette.now a.k a.o a.work in
+    record { present = seated _ a.cells.now (room k c.drawing-how.ensures c.padding-padded.ensures c.in_ok-sheet_refusal.ensures) }
+
 pub bad_index_met-requires : goal.bad_index_met-requires
 bad_index_met-requires c =
     let a = c.args in
     let k = called a.cells.now a.h a.w a.palette.now a.k a.o a.work in
-    let m : to_z w32 (of_z w32 a.o.outline_margin) ≡ a.o.outline_margin = grind (arith, to_z-of_z) in
-    record {
-      present = seated _ a.cells.now (room k m c.drawing-how.ensures c.padding-padded.ensures c.in_ok-sheet_refusal.ensures);
-      k_bound = few k m c.drawing-how.ensures c.padding-padded.ensures c.in_ok-sheet_refusal.ensures c.kept-kept.ensures c.in_ok-settings_refusal.ensures;
-    }
+    few k c.drawing-how.ensures c.padding-padded.ensures c.in_ok-sheet_refusal.ensures c.in_ok-settings_refusal.ensures
 
 pub returns-then-bad_index_met : goal.returns-then-bad_index_met
 unfolding bad_index
 returns-then-bad_index_met c =
-    let m : to_z w32 (of_z w32 c.args.o.outline_margin) ≡ c.args.o.outline_margin = grind (arith, to_z-of_z) in
     some_answered _
-    (by_index _ m c.drawing-how.ensures c.padding-padded.ensures c.in_ok-sheet_refusal.ensures c.kept-kept.ensures c.in_ok-settings_refusal.ensures c.bad_index_met.ensures c.if-bad_index_met.true)
+    (by_index _ c.drawing-how.ensures c.padding-padded.ensures c.in_ok-sheet_refusal.ensures c.in_ok-settings_refusal.ensures c.bad_index_met.ensures c.if-bad_index_met.true)
 
 pub no_entry-requires : goal.no_entry-requires
 no_entry-requires c =
     let a = c.args in
     let k = called a.cells.now a.h a.w a.palette.now a.k a.o a.work in
-    let m : to_z w32 (of_z w32 a.o.outline_margin) ≡ a.o.outline_margin = grind (arith, to_z-of_z) in
-    record {
-      present = seated _ a.cells.now (room k m c.drawing-how.ensures c.padding-padded.ensures c.in_ok-sheet_refusal.ensures);
-      w_value = touched k m c.drawing-how.ensures c.padding-padded.ensures c.in_ok-sheet_refusal.ensures;
-    }
+    touched k c.drawing-how.ensures c.padding-padded.ensures c.in_ok-sheet_refusal.ensures
 
 pub returns-then-no_entry : goal.returns-then-no_entry
 unfolding bad_index
 returns-then-no_entry c =
-    let m : to_z w32 (of_z w32 c.args.o.outline_margin) ≡ c.args.o.outline_margin = grind (arith, to_z-of_z) in
     some_answered _
-    (by_entry _ m c.drawing-how.ensures c.padding-padded.ensures c.in_ok-sheet_refusal.ensures c.kept-kept.ensures c.in_ok-settings_refusal.ensures c.bad_index_met.ensures c.if-bad_index_met.false
+    (by_entry _ c.drawing-how.ensures c.padding-padded.ensures c.in_ok-sheet_refusal.ensures c.in_ok-settings_refusal.ensures c.bad_index_met.ensures c.if-bad_index_met.false
     c.no_entry.ensures c.if-no_entry.true)
 
 pub returns : goal.returns
 unfolding bad_index
 returns c =
-    let m : to_z w32 (of_z w32 c.args.o.outline_margin) ≡ c.args.o.outline_margin = grind (arith, to_z-of_z) in
     none_answered _
-    (accepted _ m c.drawing-how.ensures c.padding-padded.ensures c.in_ok-sheet_refusal.ensures c.kept-kept.ensures c.in_ok-settings_refusal.ensures c.bad_index_met.ensures c.if-bad_index_met.false
+    (accepted _ c.drawing-how.ensures c.padding-padded.ensures c.in_ok-sheet_refusal.ensures c.in_ok-settings_refusal.ensures c.bad_index_met.ensures c.if-bad_index_met.false
     c.no_entry.ensures c.if-no_entry.false)
     refl

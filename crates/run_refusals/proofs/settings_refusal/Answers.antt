@@ -1,6 +1,6 @@
 -- Rows 4 to 6 by the settings' ranges, and row 6 by the doubles that saturation leaves. Assumes nothing.
 use mathlib.Core.Path.{◌≡◌, refl, sym, ap, ◌∙◌}
-use mathlib.Core.Bool.{Bool, true, false}
+use mathlib.Core.Bool.{Bool, true, false, ◌||◌}
 use Rattle.std.specs.Prelude.{None, Some, Result, Ok, Err}
 use Rattle.std.proofs.Common.{rules}
 use native.Mathlib.Omega.{arith}
@@ -41,21 +41,24 @@ module _ (config : PostConfig) (kept : Bool) (palette : Palette) {bad : Bool} (t
 pub returns-in_err-palette_refusal : goal.returns-in_err-palette_refusal
 returns-in_err-palette_refusal c =
     let r : c.from_residual.result ≡ Err c.in_err-palette_refusal.field-0.0 = search rules in
-    r ∙ some_answered _ (by_ranges c.args.config c.args.kept _ c.bad_ranges.ensures c.in_err-palette_refusal.ensures)
+    r ∙ some_answered _ (by_ranges c.args.o.config (c.args.o.saturated || c.args.o.fixed_palette) _ c.bad_ranges.ensures c.in_err-palette_refusal.ensures)
 
 pub returns-then-not-scaled : goal.returns-then-not-scaled
 returns-then-not-scaled c =
-    none_answered _ (as_kept c.args.config c.args.kept _ c.bad_ranges.ensures c.in_ok-palette_refusal.ensures c.if-not-scaled.true) refl
+    none_answered _ (as_kept c.args.o.config (c.args.o.saturated || c.args.o.fixed_palette) _ c.bad_ranges.ensures c.in_ok-palette_refusal.ensures (sym c.kept-scaled.ensures ∙ c.if-not-scaled.true)) refl
+
+pub invariant_of-scaled_too_far : goal.invariant_of-scaled_too_far
+invariant_of-scaled_too_far c =
+    let u = usable c.args.o.config (c.args.o.saturated || c.args.o.fixed_palette) _ c.bad_ranges.ensures c.in_ok-palette_refusal.ensures in
+    record { room = (omega (arith, u.few, u.whole), u.few) }
 
 pub scaled_too_far-requires : goal.scaled_too_far-requires
-scaled_too_far-requires c =
-    let u = usable c.args.config c.args.kept _ c.bad_ranges.ensures c.in_ok-palette_refusal.ensures in
-    (omega (arith, u.few, u.whole), u.few, u.ranged)
+scaled_too_far-requires c = (usable c.args.o.config (c.args.o.saturated || c.args.o.fixed_palette) _ c.bad_ranges.ensures c.in_ok-palette_refusal.ensures).ranged
 
 pub returns-then-scaled_too_far : goal.returns-then-scaled_too_far
 returns-then-scaled_too_far c =
-    some_answered _ (by_products c.args.config c.args.kept _ c.bad_ranges.ensures c.in_ok-palette_refusal.ensures c.if-not-scaled.false c.scaled_too_far.ensures c.if-scaled_too_far.true)
+    some_answered _ (by_products c.args.o.config (c.args.o.saturated || c.args.o.fixed_palette) _ c.bad_ranges.ensures c.in_ok-palette_refusal.ensures (sym c.kept-scaled.ensures ∙ c.if-not-scaled.false) c.scaled_too_far.ensures c.if-scaled_too_far.true)
 
 pub returns : goal.returns
 returns c =
-    none_answered _ (in_range c.args.config c.args.kept _ c.bad_ranges.ensures c.in_ok-palette_refusal.ensures c.if-not-scaled.false c.scaled_too_far.ensures c.if-scaled_too_far.false) refl
+    none_answered _ (in_range c.args.o.config (c.args.o.saturated || c.args.o.fixed_palette) _ c.bad_ranges.ensures c.in_ok-palette_refusal.ensures (sym c.kept-scaled.ensures ∙ c.if-not-scaled.false) c.scaled_too_far.ensures c.if-scaled_too_far.false) refl
