@@ -1,18 +1,22 @@
 -- Outputs that are filled one number a turn or the three of a colour, and the best of a palette's first entries. Assumes nothing.
-use Prim.Native.Nat.{ℕ, zero, suc, ◌+◌, ◌*◌, ◌/◌, ◌%◌, ◌≤◌, ◌<◌}
-use mathlib.Core.Path.{◌≡◌, refl, ap, ◌∙◌}
-use mathlib.Core.List.{List}
-use native.Mathlib.Nat.{mul-le-mul}
+use Prim.Native.Nat.{ℕ, zero, suc, ◌+◌, ◌-◌, ◌*◌, ◌/◌, ◌%◌, ◌≤◌, ◌<◌}
+use mathlib.Core.Path.{◌≡◌, refl, sym, ap, ◌∙◌}
+use mathlib.Core.List.{List, ◌++◌}
+use native.Mathlib.Nat.{add-zero, mul-le-mul}
 use native.Mathlib.Numerals.{add-one}
 use native.Mathlib.Omega.{arith}
-use lib.ListN.{length, set}
-use lib.Ieee.{Float, lt}
+use lib.ListN.{length, get_or, drop, set, length-append, length-drop}
+use lib.Seq.{drop-append_seam, drop-drop}
+use lib.Ieee.{Float, lt, nan}
+use Rattle.std.proofs.lemmas.List.{get_or_append_left, get_or-drop}
+use Rattle.std.specs.Prelude.{Some}
 use Rattle.base.specs.Outputs.{filled}
 use Rattle.base.proofs.Counting.{case}
 use Rattle.base.proofs.Fills.{filled_more}
 use Rattle.color.specs.declared.Lab.{Lab}
 use Rattle.color.specs.Lab.{entry, dist2}
-use Rattle.color_lists.specs.Entries.{closer, best_of}
+use Rattle.color.specs.Least.{lowered}
+use Rattle.color_lists.specs.Entries.{best_of}
 
 -- ---- an output
 
@@ -43,12 +47,34 @@ square_le n h = mul-le-mul h h
 -- ---- the nearest entry
 
 -- one entry more
-pub best_more : (palette : List Float) (p : Lab) (k : ℕ) → closer (best_of palette p k) k (dist2 p (entry palette k)) ≡ best_of palette p (k + 1)
+pub best_more : (palette : List Float) (p : Lab) (k : ℕ) → lowered (Some (best_of palette p k)) (record { at = k; value = dist2 p (entry palette k) }) ≡ best_of palette p (k + 1)
 unfolding best_of
 best_more palette p k = rw (add-one k) refl
 
-pub best_le : (palette : List Float) (p : Lab) (k : ℕ) → (best_of palette p k).index ≤ k
-unfolding best_of closer
+pub best_le : (palette : List Float) (p : Lab) (k : ℕ) → (best_of palette p k).at ≤ k
+unfolding best_of lowered
 best_le palette p zero = omega arith
 best_le palette p (suc k) =
-    case (lt (dist2 p (entry palette k)) (best_of palette p k).square) (λ y. rw y (omega arith)) (λ z. let h = best_le palette p k in rw z (omega arith))
+    case (lt (dist2 p (entry palette k)) (best_of palette p k).value) (λ y. rw y (omega arith)) (λ z. let h = best_le palette p k in rw z (omega arith))
+
+-- the colour k stands at the front of what is left of a palette, and the colours past it come after that
+pub record Next (palette : List Float) (k : ℕ) (front rest : List Float) : Type 0 where
+  pub colour : entry front 0 ≡ entry palette k
+  pub past : rest ≡ drop (3 * (k + 1)) palette
+  pub inside : 3 * (k + 1) ≤ length palette
+
+pub next_colour : (palette front rest : List Float) (k : ℕ) → drop (3 * k) palette ≡ front ++ rest → length front ≡ 3 → Next palette k front rest
+unfolding entry
+next_colour palette front rest k e n =
+    let whole : length palette - 3 * k ≡ 3 + length rest = sym (length-drop (3 * k) palette) ∙ ap length e ∙ length-append front rest ∙ ap (λ (i : ℕ). i + length rest) n in
+    let at : (i : ℕ) → i < 3 → get_or front i nan ≡ get_or palette (3 * k + i) nan =
+    λ i h. sym (get_or_append_left front rest nan i (omega (arith, n))) ∙ ap (λ (l : List Float). get_or l i nan) (sym e) ∙ get_or-drop (3 * k) palette i nan in
+    let x : get_or front 0 nan ≡ get_or palette (3 * k) nan = at 0 (omega arith) ∙ ap (λ (i : ℕ). get_or palette i nan) (add-zero (3 * k)) in
+    let y = at 1 (omega arith) in
+    let z = at 2 (omega arith) in
+    let past : 3 * (k + 1) ≡ 3 * k + length front = omega (arith, n) in
+    record {
+      colour = rw (x, y, z) refl;
+      past = sym (ap (λ (i : ℕ). drop i palette) past ∙ sym (drop-drop (length front) (3 * k) palette) ∙ ap (drop (length front)) e ∙ drop-append_seam front rest);
+      inside = omega arith;
+    }

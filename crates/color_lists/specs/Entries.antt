@@ -1,15 +1,15 @@
 -- The entries over lists of colours, three numbers for each colour: the rows by which each refuses, and what it writes. Definitions only. Assumes nothing.
-use Rattle.std.specs.Prelude.{ℕ, zero, suc, ◌+◌, ◌*◌, ◌/◌, ◌%◌, ◌<◌, ◌≡◌, Bool, false, not, ◌&&◌, ◌||◌, cond, List, [], ◌∷◌, ltb, eqb, ℤ, pos, length, get_or, Float}
+use Rattle.std.specs.Prelude.{ℕ, zero, suc, ◌+◌, ◌*◌, ◌/◌, ◌%◌, ◌<◌, ◌≡◌, Bool, false, not, ◌&&◌, ◌||◌, Some, List, [], ◌∷◌, ltb, eqb, ℤ, pos, length, get_or, Float}
 use Rattle.std.specs.Fn.{Shared}
 use Rattle.std.specs.Float.{nan, inf}
-use Rattle.std.specs.Float.Ieee.{lt}
 use Rattle.base.specs.Places.{any}
 use Rattle.base.specs.Outputs.{filled}
 use Rattle.base.specs.declared.Refusal.TheVariants.{ListTooShort, WrongLength, ColourOutOfRange, NoEntries}
 use Rattle.base.specs.Refusals.{Row, row, refusal, unless}
 use Rattle.color.specs.declared.Lab.{Lab}
 use Rattle.color.specs.declared.Rgb8.{Rgb8}
-use Rattle.color_lists.specs.declared.Best.{Best}
+use Rattle.color.specs.declared.least.Least.{Least}
+use Rattle.color.specs.Least.{lowered}
 use Rattle.color.specs.Lab.{entry, within, dist2, distance, rgb8_to_lab, lab_to_rgb8}
 
 -- how many whole colours a list holds
@@ -111,18 +111,14 @@ matrix_out palette out =
 
 -- ---- the nearest entry
 
--- the entry k with the square d of its distance takes the place of the best so far if d is below that one's
-unfoldable pub closer : Best → ℕ → Float → Best
-closer best k d = cond (lt d best.square) (record { index = k; square = d }) best
-
--- the best for p of a palette's first k entries, from infinity on: the first of least square
-unfoldable pub best_of : List Float → Lab → ℕ → Best
-best_of palette p zero = record { index = 0; square = inf false }
-best_of palette p (suc k) = closer (best_of palette p k) k (dist2 p (entry palette k))
+-- the best for p of a palette's first k entries, from the entry 0 at infinity on: where it stands, and the square of its distance, which is the first of the least
+unfoldable pub best_of : List Float → Lab → ℕ → Least
+best_of palette p zero = record { at = 0; value = inf false }
+best_of palette p (suc k) = lowered (Some (best_of palette p k)) (record { at = k; value = dist2 p (entry palette k) })
 
 -- the index of the entry nearest to the pixel i
 unfoldable pub nearest_at : List Float → List Float → ℕ → ℤ
-nearest_at pixels palette i = pos (best_of palette (entry pixels i) (colours palette)).index
+nearest_at pixels palette i = pos (best_of palette (entry pixels i) (colours palette)).at
 
 -- when `nearest_index` refuses
 unfoldable pub nearest_rows : List Float → List Float → ℕ → List Row

@@ -5,11 +5,12 @@ ghost use Rattle.std.specs.Prelude.{◌≡◌, ℕ, ◌+◌, ◌*◌, ◌/◌, �
 ghost use Rattle.base.specs.Outputs.{filled};
 ghost use Rattle.base.specs.Refusals.{refusal, answered};
 ghost use Rattle.color.specs.Lab.{entry, rgb8_to_lab, lab_to_rgb8};
-ghost use Rattle.color_lists.specs.Entries.{Gives, colours, strays, byte_entry, closer, best_of};
+ghost use Rattle.color_lists.specs.Entries.{Gives, colours, strays, byte_entry, best_of};
 ghost use Rattle.color_lists.specs.Entries.{rgb8_to_lab_rows, rgb8_to_lab_out, lab_to_rgb8_rows, lab_to_rgb8_out, delta_e_rows, delta_e_out, matrix_rows, matrix_out, nearest_rows, nearest_out};
 
 use base::Refusal;
 use color::cielab::{dist2, distance, entry, lab_to_rgb8_one, rgb8_to_lab_one, within};
+use color::least::{Least, lower};
 use color::{Lab, Rgb8};
 
 // Whether a value is NaN or beyond 1024 either way.
@@ -30,24 +31,6 @@ fn byte_entry(list: &[u8], i: usize) -> Rgb8
         g: list[3 * i + 1],
         b: list[3 * i + 2],
     }
-}
-
-// The numbers of the colour i of a list in sRGB, in CIELAB.
-fn lab_numbers(rgb8: &[u8], i: usize) -> (f64, f64, f64)
-    requires { 3 * i + 2 < length rgb8.now }
-    ensures { let c = rgb8_to_lab (byte_entry rgb8.now i) in result ≡ (c.l, c.a, c.b) }
-{
-    let c = rgb8_to_lab_one(byte_entry(rgb8, i));
-    (c.l, c.a, c.b)
-}
-
-// The bytes of the colour i of a list in CIELAB, in sRGB.
-fn rgb8_numbers(lab: &[f64], i: usize) -> (u8, u8, u8)
-    requires { 3 * i + 2 < length lab.now }
-    ensures { let c = lab_to_rgb8 (entry lab.now i) in result ≡ (c.r, c.g, c.b) }
-{
-    let c = lab_to_rgb8_one(entry(lab, i));
-    (c.r, c.g, c.b)
 }
 
 // Writes f(0), f(1), .., f(n - 1) at the front.
@@ -97,7 +80,10 @@ pub fn rgb8_to_lab(rgb8: &[u8], out: &mut [f64]) -> Result<(), Refusal>
     ensures out_after { out.new ≡ rgb8_to_lab_out rgb8.now out.old }
 {
     rgb8_to_lab_answer(rgb8, out.len())?;
-    fill_threes(out, rgb8.len() / 3, |i| lab_numbers(rgb8, i));
+    fill_threes(out, rgb8.len() / 3, |i| {
+        let c = rgb8_to_lab_one(byte_entry(rgb8, i));
+        (c.l, c.a, c.b)
+    });
     Ok(())
 }
 
@@ -126,7 +112,10 @@ pub fn lab_to_rgb8(lab: &[f64], out: &mut [u8]) -> Result<(), Refusal>
     ensures out_after { out.new ≡ lab_to_rgb8_out lab.now out.old }
 {
     lab_to_rgb8_answer(lab, out.len())?;
-    fill_threes(out, lab.len() / 3, |i| rgb8_numbers(lab, i));
+    fill_threes(out, lab.len() / 3, |i| {
+        let c = lab_to_rgb8_one(entry(lab, i));
+        (c.r, c.g, c.b)
+    });
     Ok(())
 }
 
@@ -201,41 +190,20 @@ pub fn palette_distance_matrix(palette: &[f64], out: &mut [f64]) -> Result<(), R
     Ok(())
 }
 
-// A palette's entry with the square of its distance.
-#[derive(Clone, Copy, Debug, PartialEq)]
-struct Best {
-    index: usize,
-    square: f64,
-}
-
-// The entry k takes the place of the best so far if its square is below that one's.
-#[tactic(auto, unfolding(crate::specs::Entries::closer))]
-fn closer(best: Best, k: usize, d: f64) -> Best
-    ensures { result ≡ closer best k d }
-{
-    if d < best.square {
-        Best {
-            index: k,
-            square: d,
-        }
-    } else {
-        best
-    }
-}
-
 // The nearest entry of a palette, the lowest on ties.
 fn nearest(palette: &[f64], p: Lab) -> i32
     requires { colours palette.now ≤ 256 }
-    ensures { result ≡ pos (best_of palette.now p (colours palette.now)).index }
+    ensures { result ≡ pos (best_of palette.now p (colours palette.now)).at }
 {
-    let mut best = Best {
-        index: 0,
-        square: f64::INFINITY,
+    let mut best = Least {
+        at: 0,
+        value: f64::INFINITY,
     };
-    for k in 0..palette.len() / 3 {
-        best = closer(best, k, dist2(p, entry(palette, k)));
+    for (k, c) in palette.chunks_exact(3).enumerate() {
+        let value = dist2(p, entry(c, 0));
+        best = lower(Some(best), Least { at: k, value });
     }
-    best.index as i32
+    best.at as i32
 }
 
 // Whether `nearest_index` refuses.
