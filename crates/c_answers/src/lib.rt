@@ -1,7 +1,7 @@
 // What C gets of an entry's answer: its number, and the facts at the front of a list.
 #![tactic(auto)]
 
-ghost use Rattle.std.specs.Prelude.{◌≡◌, [], ◌∷◌, ◌++◌, ◌≤◌, length, drop, IfOk};
+ghost use Rattle.std.specs.Prelude.{◌≡◌, [], ◌∷◌, ◌++◌, ◌≤◌, length, drop, IfOk, OnErr};
 ghost use Rattle.base.specs.Refusals.{refusal, answered};
 ghost use Rattle.rules.specs.Rows.{too_large, too_short};
 ghost use Rattle.c_answers.specs.Outcomes.{status, received, one_fact, index_fact, facts_list, run_facts, three_bytes};
@@ -36,27 +36,36 @@ pub fn number(answer: Result<(), Refusal>) -> u32
     }
 }
 
-// Numbers put at the front of a list.
-fn put<T: Copy>(numbers: &[T], list: &mut [T])
-    requires { length numbers.now ≤ length list.old }
-    ensures { list.new ≡ numbers.now ++ drop (length numbers.now) list.old }
+// The number of an entry that hands out numbers, which go to the front of a list.
+fn tell<T: Copy, const N: usize>(numbers: Result<[T; N], Refusal>, list: &mut [T]) -> u32
+    requires { N ≤ length list.old }
+    ensures value { result ≡ status numbers }
+    ensures front { IfOk numbers (λ found. list.new ≡ found ++ drop N list.old) }
+    ensures same { OnErr numbers (list.new ≡ list.old) }
 {
-    list[..numbers.len()].copy_from_slice(numbers);
+    match numbers {
+        Ok(found) => {
+            list[..N].copy_from_slice(&found);
+            0
+        }
+        Err(e) => u32::from(e.number()),
+    }
 }
 
 // A count is the one fact.
+fn one_fact(n: u32) -> [u32; 1]
+    ensures { result ≡ one_fact n }
+{
+    [n]
+}
+
+// The fact of an entry that counts.
 pub fn tell_count(answer: Result<u32, Refusal>, facts: &mut [u32]) -> u32
     requires { 1 ≤ length facts.old }
     ensures value { result ≡ status answer }
     ensures facts_after { facts.new ≡ received one_fact answer facts.old }
 {
-    match answer {
-        Ok(n) => {
-            put(&[n], facts);
-            0
-        }
-        Err(e) => u32::from(e.number()),
-    }
+    tell(answer.map(one_fact), facts)
 }
 
 // An index as a fact: one more, and 0 for none.
@@ -84,6 +93,15 @@ fn facts_list(f: Facts) -> [u32; 5]
     ]
 }
 
+// The same, and the passes of both cleanings.
+fn run_facts(p: Processed) -> [u32; 7]
+    requires { FactsFit p.facts }
+    ensures { result ≡ run_facts p }
+{
+    let [height, width, colours, index, clipped] = facts_list(p.facts);
+    [height, width, colours, index, clipped, p.passes, p.again]
+}
+
 // The facts of a sheet that was outlined.
 pub fn tell_outline(answer: Result<Facts, Refusal>, facts: &mut [u32]) -> u32
     requires facts_fit { IfOk answer FactsFit }
@@ -91,13 +109,7 @@ pub fn tell_outline(answer: Result<Facts, Refusal>, facts: &mut [u32]) -> u32
     ensures value { result ≡ status answer }
     ensures facts_after { facts.new ≡ received facts_list answer facts.old }
 {
-    match answer {
-        Ok(f) => {
-            put(&facts_list(f), facts);
-            0
-        }
-        Err(e) => u32::from(e.number()),
-    }
+    tell(answer.map(facts_list), facts)
 }
 
 // The facts of a sheet that was run, and the passes of both cleanings.
@@ -107,17 +119,14 @@ pub fn tell_run(answer: Result<Processed, Refusal>, facts: &mut [u32]) -> u32
     ensures value { result ≡ status answer }
     ensures facts_after { facts.new ≡ received run_facts answer facts.old }
 {
-    match answer {
-        Ok(p) => {
-            let [height, width, colours, index, clipped] = facts_list(p.facts);
-            put(
-                &[height, width, colours, index, clipped, p.passes, p.again],
-                facts,
-            );
-            0
-        }
-        Err(e) => u32::from(e.number()),
-    }
+    tell(answer.map(run_facts), facts)
+}
+
+// Red, green and blue.
+fn three_bytes(c: Rgb8) -> [u8; 3]
+    ensures { result ≡ three_bytes c }
+{
+    [c.r, c.g, c.b]
 }
 
 // The three bytes of a colour.
@@ -126,11 +135,5 @@ pub fn tell_colour(answer: Result<Rgb8, Refusal>, out: &mut [u8]) -> u32
     ensures value { result ≡ status answer }
     ensures out_after { out.new ≡ received three_bytes answer out.old }
 {
-    match answer {
-        Ok(c) => {
-            put(&[c.r, c.g, c.b], out);
-            0
-        }
-        Err(e) => u32::from(e.number()),
-    }
+    tell(answer.map(three_bytes), out)
 }

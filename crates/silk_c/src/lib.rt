@@ -19,6 +19,7 @@ ghost use Rattle.c_answers.specs.Outcomes.{status, received, after_facts_rows, o
 
 use base::Refusal;
 use c_answers::{facts_rows, number, tell_colour, tell_count, tell_outline, tell_run};
+use mask::is_set;
 use rules::{Outline, PostConfig};
 
 // Colours of sRGB as colours of CIELAB.
@@ -188,14 +189,6 @@ fn outline_of(kind: u32, darken: f64, r: u8, g: u8, b: u8) -> Outline
         2 => Outline::Rgb(r, g, b),
         _ => Outline::None,
     }
-}
-
-// A nonzero byte is set.
-#[tactic(auto, unfolding(rules::specs::Masks::is_set))]
-fn is_set(b: u8) -> bool
-    ensures { result ≡ is_set b }
-{
-    b != 0
 }
 
 // An outline drawn over the lent cells and palette; five facts: height, width, colours, index (one more, 0 for none), clipped.
