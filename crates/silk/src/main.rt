@@ -1,7 +1,7 @@
 // The program `silk`: reads the text of a sheet from standard input, and writes what comes of it to standard output.
 #![tactic(auto)]
 
-use silk_reply::{ROOM, Served, TEXT, serve};
+use silk_reply::{ROOM, TEXT, serve};
 use std::io;
 
 fn main(rt: HostRuntime) -> io::Result<()> {
@@ -9,12 +9,5 @@ fn main(rt: HostRuntime) -> io::Result<()> {
     let mut out = [0u8; ROOM];
     let mut input = rt.stdin();
     let mut output = rt.stdout();
-    let Served {
-        read: _,
-        put: _,
-        whole,
-        written,
-    } = serve(&mut input, &mut output, &mut text, &mut out);
-    whole?;
-    written
+    serve(&mut input, &mut output, &mut text, &mut out).done()
 }

@@ -1,15 +1,15 @@
 -- A cell's sign and digits, and the cells of a row as a part of the sheet's. Assumes nothing.
-use Rattle.std.proofs.Common.{◌≡◌, ℕ, suc, ◌+◌, ◌-◌, ◌*◌, ◌≤◌, ◌<◌, true, false, List, ◌∷◌, ◌++◌, ℤ, pos, negsuc, length, get_or, take, drop, refl, ap, ◌∙◌, zero-add, arith, length-take, length-drop}
+use Rattle.std.proofs.Common.{◌≡◌, ℕ, suc, ◌+◌, ◌-◌, ◌*◌, ◌≤◌, ◌<◌, List, ◌∷◌, ◌++◌, ℤ, pos, negsuc, length, get_or, take, drop, ap, ◌∙◌, zero-add, arith, length-take, length-drop}
 use native.Mathlib.Nat.{le_refl}
 use lib.IntN.{nat_abs}
-use lib.Signed.{lt_z}
 use mir.Syntax.{w32}
 use mir.Val.{SFits}
 use Rattle.std.proofs.lemmas.List.{get_or-take, get_or-drop}
+use Rattle.std.specs.Fmt.{signed_decimal}
 use Rattle.silk_reader.specs.Reader.{codes, newline}
 use Rattle.silk_print.specs.Print.{numeral, signed_numeral, cell_text, cells_text, row_text, Put}
 use Rattle.silk_print.specs.declared.Printer.{Printer}
-use Rattle.silk_print.proofs.Digits.{numeral_short}
+use Rattle.silk_print.proofs.Digits.{numeral_short, decimal-numeral}
 use Rattle.silk_print.proofs.Printing.{put_as, each_same}
 
 -- ten digits hold what 32 bits do
@@ -17,15 +17,16 @@ pub size_short : (z : ℤ) → SFits w32 z → length (numeral (nat_abs z)) ≤ 
 size_short (pos n) f = numeral_short 9 n (omega (arith, f.sfits))
 size_short (negsuc n) f = numeral_short 9 (suc n) (omega (arith, f.sfits))
 
-pub signed_below : (z : ℤ) → lt_z z (pos 0) ≡ true → 45 ∷ numeral (nat_abs z) ≡ signed_numeral z
+-- the library's text of a cell
+pub signed-numeral : (z : ℤ) → SFits w32 z → signed_decimal z ≡ signed_numeral z
 unfolding signed_numeral
-signed_below (pos n) y = absurd (grind (arith, y))
-signed_below (negsuc n) y = refl
+signed-numeral (pos n) f = decimal-numeral n (omega (arith, f.sfits))
+signed-numeral (negsuc n) f = ap (λ (l : List ℕ). 45 ∷ l) (decimal-numeral (suc n) (omega (arith, f.sfits)))
 
-pub signed_from : (z : ℤ) → lt_z z (pos 0) ≡ false → numeral (nat_abs z) ≡ signed_numeral z
+pub signed-short : (z : ℤ) → SFits w32 z → length (signed_numeral z) ≤ 11
 unfolding signed_numeral
-signed_from (pos n) y = refl
-signed_from (negsuc n) y = cc
+signed-short (pos n) f = omega (arith, size_short (pos n) f)
+signed-short (negsuc n) f = omega (arith, size_short (negsuc n) f)
 
 -- a row as a part of the sheet
 module _ (cells : List ℤ) (from w : ℕ) (h : from + w ≤ length cells) where

@@ -8,6 +8,8 @@ use native.Mathlib.Omega.{arith}
 use lib.Dec.{ltb}
 use lib.ListN.{length, length-append}
 use borrow.Author.Tests.{lt-ltb, le-ltb, ltb-true, ltb-false}
+use Rattle.std.specs.Fmt.{decimal}
+use Rattle.std.proofs.lemmas.Fmt.{AppendsLastDigit, decimal_from_appends, length-decimal-le_succ}
 use Rattle.base.proofs.Counting.{case}
 use Rattle.silk_print.specs.Print.{digits_in, numeral, hex_digit}
 
@@ -39,6 +41,13 @@ numeral-more n h =
 
 pub more-length : (n : ℕ) → 10 ≤ n → length (numeral n) ≡ length (numeral (n / 10)) + 1
 more-length n h = ap length (numeral-more n h) ∙ length-append (numeral (n / 10)) ((48 + n % 10) ∷ [])
+
+-- the library's digits of a number
+pub decimal-numeral : (n : ℕ) → n < 2 ^ 64 → decimal n ≡ numeral n
+unfolding numeral
+decimal-numeral n h =
+    let each : AppendsLastDigit digits_in = record { one = λ k m l. digits_one k m (lt-ltb m 10 l); more = λ k m l. digits_more k m (le-ltb m 10 l) } in
+    sym (decimal_from_appends digits_in each (suc n) n h (omega (arith, length-decimal-le_succ n h)))
 
 -- a number below 10 ^ k has at most k digits
 pub numeral_short : (k n : ℕ) → n < 10 ^ suc k → length (numeral n) ≤ suc k

@@ -1,5 +1,5 @@
 -- Texts that are put into a buffer one after the other, by loops too. Assumes nothing.
-use Rattle.std.proofs.Common.{◌≡◌, ℕ, suc, ◌+◌, ◌-◌, ◌*◌, ◌/◌, ◌%◌, ◌≤◌, ◌<◌, List, [], ◌∷◌, ◌++◌, length, refl, sym, ap, ◌∙◌, append_assoc, append-nil, length-append, add-zero, add-one, zero-le, take, drop, arith}
+use Rattle.std.proofs.Common.{◌≡◌, ℕ, suc, ◌+◌, ◌-◌, ◌*◌, ◌≤◌, ◌<◌, List, [], ◌++◌, length, refl, sym, ap, ◌∙◌, append_assoc, append-nil, length-append, add-zero, add-one, zero-le, take, drop, arith}
 use Rattle.std.proofs.lemmas.Slice.{take-put_mid, drop-put_mid}
 use borrow.Rule.Slice.PartMut.{put_mid}
 use lib.ListN.{take-append-drop}
@@ -7,9 +7,8 @@ use mathlib.Core.List.{flat_map}
 use native.Mathlib.Nat.{sub-zero, suc-mul, le_refl}
 use Rattle.base.specs.Places.{table_from, table}
 use Rattle.base.proofs.Counting.{table_same}
-use Rattle.silk_print.specs.Print.{numeral, each, Put, Room}
+use Rattle.silk_print.specs.Print.{each, Put, Room}
 use Rattle.silk_print.specs.declared.Printer.{Printer}
-use Rattle.silk_print.proofs.Digits.{numeral_one, numeral-more, more-length}
 use Rattle.silk_text.specs.Answers.{laid}
 use Rattle.silk_text.proofs.Laying.{laid_none, laid-length, laid_more}
 use Rattle.silk_text.proofs.Whole.{row_fits}
@@ -60,18 +59,6 @@ put_both {s = s} {t = t} {a = a} {b = b} p q h =
 -- three texts
 pub put_three : {m n k : ℕ} {s t u : List ℕ} {a b c d : Printer} → Put m s a b → Put n t b c → Put k u c d → Room (m + n + k) a → Put (m + n + k) (s ++ t ++ u) a d
 put_three p q r h = put_both (put_both p q (omega arith)) r (omega arith)
-
--- ---- a number
-
-module _ {n d : ℕ} (e : d ≡ 48 + n % 10) where
-  pub number_one : n < 10 → {a b : Printer} → Put 1 (d ∷ []) a b → Put (length (numeral n)) (numeral n) a b
-  number_one h p =
-      let f : d ≡ 48 + n = omega arith in
-      put_as p (ap (λ (x : ℕ). x ∷ []) f ∙ sym (numeral_one n h)) (omega (arith, ap length (numeral_one n h)))
-
-  pub number_more : 10 ≤ n → {a b c : Printer} → Put (length (numeral (n / 10))) (numeral (n / 10)) a b → Put 1 (d ∷ []) b c → Room (length (numeral n)) a → Put (length (numeral n)) (numeral n) a c
-  number_more h p q r =
-      put_as (put_both p q (omega (arith, more-length n h))) (ap (λ (x : ℕ). numeral (n / 10) ++ x ∷ []) e ∙ sym (numeral-more n h)) (omega (arith, more-length n h))
 
 -- ---- loops
 

@@ -8,26 +8,19 @@ ghost use Rattle.silk_print.specs.Print.{numeral, signed_numeral, hex_digit, hex
 
 use base::Refusal;
 use color::Rgb8;
-use color::cielab::{entry, lab_to_rgb8_one};
-use rules::Facts;
+use color::cielab::lab_to_rgb8_one;
+use itoa::Buffer;
+use rules::{Entries, Facts};
 
-// A decimal digit.
-fn digit(n: usize) -> u8
-    requires { n < 10 }
-    ensures { result ≡ 48 + n }
-{
-    b'0' + n as u8
-}
+// The base that hex digits are of.
+const BASE: u32 = 16;
 
 // A hex digit, lower case.
-fn hex_digit(d: u8) -> u8
+fn digit(d: u8) -> u8
     requires { d < 16 }
     ensures { result ≡ hex_digit d }
 {
-    match d {
-        0..=9 => b'0' + d,
-        _ => b'a' + (d - 10),
-    }
+    char::from_digit(u32::from(d), BASE).unwrap() as u8
 }
 
 // The column before which no comma stands.
@@ -74,10 +67,8 @@ impl<'a> Printer<'a> {
         requires { Room (length (numeral n)) self.old }
         ensures { Put (length (numeral n)) (numeral n) self.old self.new }
     {
-        if n >= 10 {
-            self.put_number(n / 10);
-        }
-        self.put_byte(digit(n % 10));
+        let mut digits = Buffer::new();
+        self.put_bytes(digits.format(n).as_bytes());
     }
 
     // Two hex digits.
@@ -85,8 +76,8 @@ impl<'a> Printer<'a> {
         requires { Room 2 self.old }
         ensures { Put 2 (hex_byte b) self.old self.new }
     {
-        self.put_byte(hex_digit(b / 16));
-        self.put_byte(hex_digit(b % 16));
+        self.put_byte(digit(b / 16));
+        self.put_byte(digit(b % 16));
     }
 
     // Six hex digits.
@@ -114,10 +105,8 @@ impl<'a> Printer<'a> {
         requires { Room 11 self.old }
         ensures { Put 11 (signed_numeral c) self.old self.new }
     {
-        if c < 0 {
-            self.put_byte(b'-');
-        }
-        self.put_number(c.unsigned_abs() as usize);
+        let mut digits = Buffer::new();
+        self.put_bytes(digits.format(c).as_bytes());
     }
 
     // The cell of column x, after a comma unless it is the first.
@@ -163,13 +152,12 @@ impl<'a> Printer<'a> {
     }
 
     // The lines of all colours.
-    fn put_colours(&mut self, palette: &[f64], k: usize)
-        requires { (3 * k ≤ length palette.now) × Room (k * 14) self.old }
-        ensures { Put (k * 14) (colours_text palette.now k) self.old self.new }
+    fn put_colours(&mut self, entries: Entries<'_>)
+        requires { Room (entries.k * 14) self.old }
+        ensures { let e = entries.entry in Put (e.k * 14) (colours_text e.lab.now e.k) self.old self.new }
     {
-        for i in 0..k {
-            let lab = entry(palette, i);
-            self.put_colour_line(lab_to_rgb8_one(lab));
+        for i in 0..entries.k {
+            self.put_colour_line(lab_to_rgb8_one(entries.colour(i)));
         }
     }
 
@@ -231,7 +219,10 @@ impl<'a> Printer<'a> {
         ensures { Put (room_for facts) (result_text facts palette.now cells.now) self.old self.new }
     {
         self.put_head(facts);
-        self.put_colours(palette, facts.colours);
+        self.put_colours(Entries {
+            lab: palette,
+            k: facts.colours,
+        });
         self.put_rows(cells, facts.height, facts.width);
     }
 }

@@ -17,7 +17,7 @@ use hex_colour::hex_to_rgb8;
 use std::marker::Model;
 
 // What is left of a text: a clause sees its bytes.
-#[derive(Drop)]
+#[derive(Clone, Drop)]
 pub struct Cursor<'a> {
     rest: &'a [u8],
 }
@@ -83,6 +83,14 @@ impl<'a> Cursor<'a> {
         Cursor { rest: text }
     }
 
+    // What is left of the text: a cursor over it reads on from here.
+    pub fn rest(&self) -> &'a [u8]
+        ensures { result.now ≡ self.now }
+    {
+        let Self { rest } = self;
+        *rest
+    }
+
     pub fn is_empty(&self) -> bool
         ensures { result ≡ (length self.now == 0) }
     {
@@ -95,10 +103,7 @@ impl<'a> Cursor<'a> {
         ensures value { answer result self.new ≡ bytes key.now self.old }
         ensures err { OnErr result (self.new ≡ self.old) }
     {
-        let Some(rest) = self.rest.strip_prefix(key) else {
-            return Err(Refusal::Malformed);
-        };
-        self.rest = rest;
+        self.rest = self.rest.strip_prefix(key).ok_or(Refusal::Malformed)?;
         Ok(())
     }
 

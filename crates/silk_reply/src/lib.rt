@@ -2,6 +2,7 @@
 #![tactic(auto)]
 
 ghost use Rattle.std.specs.Prelude.{◌<◌, ◌≡◌, length, take, OnOk};
+ghost use Rattle.std.specs.Result.{result_and};
 ghost use Rattle.std.specs.Io.KnownBytes.{IsAtEnd, Appends, Consumes};
 ghost use Rattle.base.specs.Numbers.{number};
 ghost use Rattle.silk_text.specs.Answers.{laid};
@@ -100,6 +101,15 @@ pub struct Served {
     pub put: usize,
     pub whole: io::Result<()>,
     pub written: io::Result<()>,
+}
+
+impl Served {
+    // Whether the text was read to its end and the answer was written, or the first error of the two.
+    pub fn done(self) -> io::Result<()>
+        ensures { result ≡ result_and self.whole self.written }
+    {
+        self.whole.and(self.written)
+    }
 }
 
 // Reads a text, and writes what comes of it. A read that fails counts as the end of the text.

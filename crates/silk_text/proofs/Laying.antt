@@ -1,17 +1,21 @@
 -- Lists that are laid over others, from a place on. Assumes nothing.
-use Prim.Native.Nat.{ℕ, ◌+◌, ◌≤◌, ◌<◌, zero-le}
+use Prim.Native.Nat.{ℕ, suc, ◌+◌, ◌*◌, ◌≤◌, ◌<◌}
 use mathlib.Core.Path.{◌≡◌, refl, sym, ap, ◌∙◌}
 use mathlib.Core.List.{List, [], ◌∷◌, ◌++◌, append_assoc, append-nil}
 use native.Mathlib.Nat.{add-zero, add_assoc}
-use native.Mathlib.Numerals.{add-one}
 use native.Mathlib.Omega.{arith}
-use lib.ListN.{length, get_or, take, drop, set, length-append, length-drop, length-set, take-append-drop, drop_of_length-le}
-use lib.Seq.{take_at, take-suc, drop-append-add, drop-drop, length-take-le, sets, sets-eq}
+use lib.Ieee.{Float}
+use lib.ListN.{length, take, drop, set, length-append, length-drop, take-append-drop, drop_of_length-le}
+use lib.Seq.{take_at, drop-append-add, drop-drop, length-take-le, sets, sets-eq}
 use borrow.Rule.Slice.PartMut.{put_mid}
 use Rattle.std.proofs.lemmas.Slice.{put_mid-paste}
 use Rattle.std.proofs.lemmas.List.Edits.{paste_all}
 use Rattle.base.specs.declared.Refusal.{Refusal}
+use Rattle.color.specs.Lab.{rgb8_to_lab}
+use Rattle.color.specs.declared.Rgb8.{Rgb8}
+use Rattle.rules.specs.Palette.{recoloured}
 use Rattle.silk_reader.specs.Reader.{Got, got, refused, Reader, chain, give}
+use Rattle.silk_text.specs.Format.{doubles}
 use Rattle.silk_text.specs.Answers.{laid, onto}
 use Rattle.silk_reader.proofs.Chaining.{chain_first}
 
@@ -65,37 +69,13 @@ module _ {A : Type 0} where
   unfolding laid
   laid_whole new old e = rw (drop_of_length-le old {i = 0 + length new} (omega arith)) (append-nil new)
 
--- ---- a copy
-
--- the first i of n elements of a list are laid over another, which is `now`
-pub record Copied {A : Type 0} (from : List A) (n at : ℕ) (old : List A) (i : ℕ) (now : List A) : Type 0 where
-  pub inside : i ≤ n
-  pub list : now ≡ laid at (take i from) old
-  pub kept : length now ≡ length old
-
-pub copied_none : {A : Type 0} (from : List A) (n at : ℕ) (old : List A) → Copied from n at old 0 old
-copied_none from n at old = record { inside = zero-le; list = laid_none at old; kept = refl }
-
-module _ {A : Type 0} {from : List A} {n at : ℕ} {old : List A} {i : ℕ} {now : List A} (g : Copied from n at old i now) where
-  pub copied_more : (d : A) → i < n → n ≤ length from → at + n ≤ length old → {place : ℕ} {x : A} → place ≡ at + i → x ≡ get_or from i d → Copied from n at old (i + 1) (set now place x)
-  copied_more d h l r {place} {x} p y =
-      let e : place ≡ at + length (take i from) = omega (arith, length-take-le i from (omega arith)) in
-      let next : take i from ++ x ∷ [] ≡ take (i + 1) from = ap (λ (z : A). take i from ++ z ∷ []) y ∙ sym (take-suc from i d (omega arith)) ∙ ap (λ (k : ℕ). take k from) (sym (add-one i)) in
-      record {
-        inside = omega arith;
-        list =
-            laid_one place x now (omega (arith, g.kept))
-            ∙ ap (λ (b : List A). laid place (x ∷ []) b) g.list
-            ∙ ap (λ (k : ℕ). laid k (x ∷ []) (laid at (take i from) old)) e
-            ∙ laid_more at (take i from) (x ∷ []) old (omega arith)
-            ∙ ap (λ (b : List A). laid at b old) next;
-        kept = length-set now place x ∙ g.kept;
-      }
-
-  pub copied_all : n ≤ i → now ≡ laid at (take n from) old
-  copied_all h =
-      let e : i ≡ n = omega (arith, g.inside) in
-      g.list ∙ ap (λ (k : ℕ). laid at (take k from) old) e
+-- a colour that is written to the entry i
+pub recoloured-laid : (palette : List Float) (i : ℕ) (c : Rgb8) → 3 * i + 3 ≤ length palette → recoloured palette i (rgb8_to_lab c) ≡ laid (3 * i) (doubles c) palette
+unfolding recoloured doubles
+recoloured-laid palette i c h =
+    let a : 3 * i + 1 ≡ suc (3 * i) = omega arith in
+    let b : 3 * i + 2 ≡ suc (suc (3 * i)) = omega arith in
+    rw (a, b) (laid_sets (3 * i) (doubles c) palette (omega arith))
 
 -- ---- what a reading lays over a list
 

@@ -1,23 +1,14 @@
 // The whole text: the head, then colours and rows, which fill lent lists.
 ghost use Rattle.std.specs.Prelude.{◌≡◌, ◌+◌, ◌*◌, ◌≤◌, [], length, take};
 ghost use Rattle.silk_reader.specs.Reader.{series, cell_at};
-ghost use Rattle.silk_text.specs.Format.{doubles, colour_lines, row_line, row_lines, lists, file, parse};
+ghost use Rattle.silk_text.specs.Format.{colour_lines, row_line, row_lines, lists, file, parse};
 ghost use Rattle.silk_text.specs.Answers.{laid, onto, got_list, lent, got_file, read_into, read_answer, read_palette, read_cells};
 
 use base::Refusal;
-use color::Rgb8;
 use color::cielab::rgb8_to_lab_one;
+use rules::recolour;
 use silk_reader::Cursor;
 use silk_reader::head::Head;
-
-// Puts a colour at entry i of a palette.
-fn put_colour(palette: &mut [f64], i: usize, c: Rgb8)
-    requires { 3 * i + 3 ≤ length palette.old }
-    ensures { palette.new ≡ laid (3 * i) (doubles c) palette.old }
-{
-    let lab = rgb8_to_lab_one(c);
-    palette[3 * i..3 * i + 3].copy_from_slice(&[lab.l, lab.a, lab.b]);
-}
 
 // Colour lines, into the front of a palette.
 fn read_colours(text: &mut Cursor, colours: usize, palette: &mut [f64]) -> Result<(), Refusal>
@@ -26,7 +17,7 @@ fn read_colours(text: &mut Cursor, colours: usize, palette: &mut [f64]) -> Resul
 {
     for i in 0..colours {
         let c = text.colour_line()?;
-        put_colour(palette, i, c);
+        recolour(palette, i, rgb8_to_lab_one(c));
     }
     Ok(())
 }

@@ -5,4 +5,4 @@ use Rattle.silk_print.proofs.Printing.{Printing}
 use Rattle.silk_print.proofs.Printer.put_colours.Given as goal
 
 abbrev pub invariant-loop-i : goal.invariant-loop-i
-invariant-loop-i l = Printing (λ i. colour_text (lab_to_rgb8 (entry l.palette i))) 14 l.k l.initial.self l.i l.self
+invariant-loop-i l = Printing (λ i. colour_text (lab_to_rgb8 (entry l.entries.lab.now i))) 14 l.entries.k l.initial.self l.i l.self

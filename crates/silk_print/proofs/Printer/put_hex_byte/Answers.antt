@@ -6,4 +6,4 @@ use Rattle.silk_print.proofs.Printer.put_hex_byte.Goals as goal
 
 pub returns : goal.returns
 unfolding hex_byte
-returns c = put_both (rw c.hex_digit.ensures at c.put_byte.ensures) (rw c.hex_digit-2.ensures at c.put_byte-2.ensures) (omega arith)
+returns c = put_both (rw c.digit.ensures at c.put_byte.ensures) (rw c.digit-2.ensures at c.put_byte-2.ensures) (omega arith)

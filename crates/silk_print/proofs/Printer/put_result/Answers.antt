@@ -10,7 +10,7 @@ put_head-requires c = (c.requires.sizes, omega (arith, c.requires.room))
 
 pub put_colours-requires : goal.put_colours-requires
 unfolding room_for
-put_colours-requires c = (c.requires.entries, omega (arith, c.requires.room))
+put_colours-requires c = omega (arith, c.requires.room)
 
 pub put_rows-requires : goal.put_rows-requires
 unfolding room_for

@@ -1,7 +1,8 @@
-use Rattle.std.proofs.Common.{◌*◌, sym, refl, arith}
+use Rattle.std.proofs.Common.{◌*◌, ◌∙◌, sym, ap, refl, arith}
 use Rattle.std.proofs.lemmas.Result.{err_from_is_err_and}
+use Rattle.rules.specs.Palette.{recoloured}
 use Rattle.silk_text.specs.Format.{doubles, colour_lines}
-use Rattle.silk_text.proofs.Laying.{onto_yes, onto_not}
+use Rattle.silk_text.proofs.Laying.{onto_yes, onto_not, recoloured-laid}
 use Rattle.silk_text.proofs.Repeating.{going_none, going_more, going_refused, going_all}
 use Rattle.silk_text.proofs.sheet.read_colours.Goals as goal
 
@@ -17,7 +18,8 @@ returns-in_err-c c =
 pub loop-i-preserved : goal.loop-i-preserved
 unfolding doubles
 loop-i-preserved c =
-    going_more 3 _ 0 c.loop-i.invariant c.loop-i-test.true (sym c.in_ok-c.ensures) refl (omega arith) {place = 3 * c.loop-i.i} c.put_colour.ensures (omega arith)
+    let new = c.recolour.ensures ∙ ap (recoloured c.loop-i.palette c.loop-i.i) c.rgb8_to_lab_one.ensures ∙ recoloured-laid c.loop-i.palette c.loop-i.i c.in_ok-c.c (omega arith) in
+    going_more 3 _ 0 c.loop-i.invariant c.loop-i-test.true (sym c.in_ok-c.ensures) refl (omega arith) {place = 3 * c.loop-i.i} new (omega arith)
 
 pub returns : goal.returns
 unfolding colour_lines

@@ -1,5 +1,0 @@
--- `Printer::put_number` ends, since the number falls. Assumes nothing.
-use Rattle.silk_print.proofs.Printer.+put_number.Given as goal
-
-abbrev pub decreases-put_number : goal.decreases-put_number
-decreases-put_number l = l.n
