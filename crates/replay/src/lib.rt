@@ -14,4 +14,4 @@ pub use kinds::Kind;
 pub use lists::Stored;
 pub use numbers::Numbers;
 pub use report::{Total, report_case, report_total};
-pub use text::read;
+pub use text::{Loaded, TEXT, read, read_to_vec};

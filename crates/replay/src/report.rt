@@ -1,5 +1,7 @@
 // What is printed of cases that were replayed.
-ghost use Rattle.std.specs.Prelude.{◌≡◌, ◌+◌, ◌^◌, ◌<◌, ◌↔◌, IsTrue, if◌then◌else◌};
+ghost use Rattle.std.specs.Prelude.{◌≡◌, ◌+◌, ◌^◌, ◌<◌, ◌↔◌, IsTrue, if◌then◌else◌, Some, OnOk};
+ghost use Rattle.std.specs.Io.KnownBytes.{Appends};
+ghost use Rattle.replay.specs.Reports.{case_text, count_text, total_text};
 
 use std::io::Write;
 use std::{fmt, io};
@@ -32,18 +34,26 @@ impl Total {
 }
 
 impl fmt::Display for Total {
+    ghost output = { λ t. Some (count_text t) };
+
     fn fmt<W: fmt::Write>(&self, f: &mut fmt::Formatter<W>) -> fmt::Result {
         let Total { cases, differing } = *self;
         write!(f, "{cases} cases, {differing} differ")
     }
 }
 
-// Prints that a case differs.
-pub fn report_case<W: Write>(out: &mut W, name: &str, case: u64) -> io::Result<()> {
-    writeln!(out, "{name}: case {case} differs")
+// Prints that a case differs. A writer that tells what it holds gains the line.
+pub fn report_case<W: Write>(out: &mut W, name: &[u8], case: u64) -> io::Result<()>
+    ensures { OnOk result (Appends (W.contents out.old) (W.contents out.new) (case_text name.now case)) }
+{
+    out.write_all(name)?;
+    writeln!(out, ": case {case} differs")
 }
 
-// Prints how many cases a file has, and how many of them differ.
-pub fn report_total<W: Write>(out: &mut W, name: &str, total: Total) -> io::Result<()> {
-    writeln!(out, "{name}: {total}")
+// Prints how many cases a file has, and how many of them differ. A writer that tells what it holds gains the line.
+pub fn report_total<W: Write>(out: &mut W, name: &[u8], total: Total) -> io::Result<()>
+    ensures { OnOk result (Appends (W.contents out.old) (W.contents out.new) (total_text name.now total)) }
+{
+    out.write_all(name)?;
+    writeln!(out, ": {total}")
 }

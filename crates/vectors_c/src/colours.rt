@@ -1,60 +1,91 @@
 // Cases of the entries over lists of colours, and of the one that reads hex.
 use crate::lent::Lent;
-use replay::{Comparison, Numbers};
+use crate::replayed;
+use replay::{Comparison, Kind, Numbers};
 use silk_c::{
     silk_delta_e, silk_hex_to_rgb8, silk_lab_to_rgb8, silk_nearest_index,
     silk_palette_distance_matrix, silk_rgb8_to_lab,
 };
 use std::alloc::{AllocError, Global};
+use std::io;
+use std::io::Write;
+use std::rt::Files;
 
-pub fn rgb8_to_lab(alloc: Global, mut case: Numbers<'_>) -> Result<bool, AllocError> {
-    let rgb8 = Lent::<u8>::list(alloc, &mut case)?;
-    let mut out = Lent::<f64>::list(alloc, &mut case)?;
-    let answer = silk_rgb8_to_lab(&rgb8.elements, &mut out.elements);
-    let found = rgb8.compared(Comparison::answered(case, answer));
+// A case of an entry that makes one list of another.
+fn converted<A: Kind, B: Kind, F: Fn(&[A], &mut [B]) -> u32>(
+    alloc: Global,
+    mut case: Numbers<'_>,
+    entry: F,
+) -> Result<bool, AllocError>
+    requires { F.IsAlwaysCallable entry }
+{
+    let given = Lent::<A>::list(alloc, &mut case)?;
+    let mut out = Lent::<B>::list(alloc, &mut case)?;
+    let answer = entry(&given.elements, &mut out.elements);
+    let found = given.compared(Comparison::answered(case, answer));
     Ok(out.compared(found).holds())
 }
 
-pub fn lab_to_rgb8(alloc: Global, mut case: Numbers<'_>) -> Result<bool, AllocError> {
-    let lab = Lent::<f64>::list(alloc, &mut case)?;
-    let mut out = Lent::<u8>::list(alloc, &mut case)?;
-    let answer = silk_lab_to_rgb8(&lab.elements, &mut out.elements);
-    let found = lab.compared(Comparison::answered(case, answer));
-    Ok(out.compared(found).holds())
-}
-
-pub fn delta_e(alloc: Global, mut case: Numbers<'_>) -> Result<bool, AllocError> {
+// A case of an entry that makes a list of two lists of colours.
+fn paired<B: Kind, F: Fn(&[f64], &[f64], &mut [B]) -> u32>(
+    alloc: Global,
+    mut case: Numbers<'_>,
+    entry: F,
+) -> Result<bool, AllocError>
+    requires { F.IsAlwaysCallable entry }
+{
     let a = Lent::<f64>::list(alloc, &mut case)?;
     let b = Lent::<f64>::list(alloc, &mut case)?;
-    let mut out = Lent::<f64>::list(alloc, &mut case)?;
-    let answer = silk_delta_e(&a.elements, &b.elements, &mut out.elements);
+    let mut out = Lent::<B>::list(alloc, &mut case)?;
+    let answer = entry(&a.elements, &b.elements, &mut out.elements);
     let found = a.compared(Comparison::answered(case, answer));
     let found = b.compared(found);
     Ok(out.compared(found).holds())
 }
 
-pub fn nearest_index(alloc: Global, mut case: Numbers<'_>) -> Result<bool, AllocError> {
-    let pixels = Lent::<f64>::list(alloc, &mut case)?;
-    let palette = Lent::<f64>::list(alloc, &mut case)?;
-    let mut out = Lent::<i32>::list(alloc, &mut case)?;
-    let answer = silk_nearest_index(&pixels.elements, &palette.elements, &mut out.elements);
-    let found = pixels.compared(Comparison::answered(case, answer));
-    let found = palette.compared(found);
-    Ok(out.compared(found).holds())
-}
-
-pub fn palette_distance_matrix(alloc: Global, mut case: Numbers<'_>) -> Result<bool, AllocError> {
-    let palette = Lent::<f64>::list(alloc, &mut case)?;
-    let mut out = Lent::<f64>::list(alloc, &mut case)?;
-    let answer = silk_palette_distance_matrix(&palette.elements, &mut out.elements);
-    let found = palette.compared(Comparison::answered(case, answer));
-    Ok(out.compared(found).holds())
-}
-
-pub fn hex_to_rgb8(alloc: Global, mut case: Numbers<'_>) -> Result<bool, AllocError> {
-    let text = Lent::<u8>::list(alloc, &mut case)?;
-    let mut out = Lent::<u8>::list(alloc, &mut case)?;
-    let answer = silk_hex_to_rgb8(&text.elements, &mut out.elements);
-    let found = text.compared(Comparison::answered(case, answer));
-    Ok(out.compared(found).holds())
+// Replays the files of the entries over lists of colours, and of the one that reads hex.
+pub fn replay_files<R: Files, W: Write>(files: &R, alloc: Global, out: &mut W) -> io::Result<()> {
+    replayed(
+        files,
+        alloc,
+        out,
+        "rgb8_to_lab.txt",
+        |alloc, case| converted(alloc, case, silk_rgb8_to_lab),
+    )?;
+    replayed(
+        files,
+        alloc,
+        out,
+        "lab_to_rgb8.txt",
+        |alloc, case| converted(alloc, case, silk_lab_to_rgb8),
+    )?;
+    replayed(
+        files,
+        alloc,
+        out,
+        "delta_e.txt",
+        |alloc, case| paired(alloc, case, silk_delta_e),
+    )?;
+    replayed(
+        files,
+        alloc,
+        out,
+        "nearest_index.txt",
+        |alloc, case| paired(alloc, case, silk_nearest_index),
+    )?;
+    replayed(
+        files,
+        alloc,
+        out,
+        "palette_distance_matrix.txt",
+        |alloc, case| converted(alloc, case, silk_palette_distance_matrix),
+    )?;
+    replayed(
+        files,
+        alloc,
+        out,
+        "hex_to_rgb8.txt",
+        |alloc, case| converted(alloc, case, silk_hex_to_rgb8),
+    )?;
+    Ok(())
 }

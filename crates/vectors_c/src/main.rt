@@ -26,11 +26,11 @@ fn replay_cases<W: Write, F: Fn(Global, Numbers<'_>) -> Result<bool, AllocError>
     for case in Cases(numbers) {
         let same = holds(alloc, case)?;
         if !same {
-            report_case(out, name, total.cases)?;
+            report_case(out, name.as_bytes(), total.cases)?;
         }
         total.add(!same);
     }
-    report_total(out, name, total)?;
+    report_total(out, name.as_bytes(), total)?;
     Ok(total.none_differs())
 }
 
@@ -45,80 +45,14 @@ fn replayed<R: Files, W: Write, F: Fn(Global, Numbers<'_>) -> Result<bool, Alloc
     requires { F.IsAlwaysCallable holds }
 {
     let mut file = fs::open(files, name)?;
-    let numbers = replay::read(alloc, &mut file)?;
+    let numbers = replay::read_to_vec(alloc, &mut file)?;
     replay_cases(alloc, out, name, &numbers, holds)
 }
 
 fn main(rt: HostRuntime) -> io::Result<()> {
     let alloc = rt.alloc();
     let mut out = rt.stdout();
-    replayed(
-        &rt,
-        alloc,
-        &mut out,
-        "rgb8_to_lab.txt",
-        colours::rgb8_to_lab,
-    )?;
-    replayed(
-        &rt,
-        alloc,
-        &mut out,
-        "lab_to_rgb8.txt",
-        colours::lab_to_rgb8,
-    )?;
-    replayed(&rt, alloc, &mut out, "delta_e.txt", colours::delta_e)?;
-    replayed(
-        &rt,
-        alloc,
-        &mut out,
-        "nearest_index.txt",
-        colours::nearest_index,
-    )?;
-    replayed(
-        &rt,
-        alloc,
-        &mut out,
-        "palette_distance_matrix.txt",
-        colours::palette_distance_matrix,
-    )?;
-    replayed(
-        &rt,
-        alloc,
-        &mut out,
-        "hex_to_rgb8.txt",
-        colours::hex_to_rgb8,
-    )?;
-    replayed(
-        &rt,
-        alloc,
-        &mut out,
-        "label_regions.txt",
-        regions::label_regions,
-    )?;
-    replayed(&rt, alloc, &mut out, "label4.txt", regions::label4)?;
-    replayed(
-        &rt,
-        alloc,
-        &mut out,
-        "binary_dilation8.txt",
-        regions::binary_dilation8,
-    )?;
-    replayed(
-        &rt,
-        alloc,
-        &mut out,
-        "remove_orphans.txt",
-        sheets::remove_orphans,
-    )?;
-    replayed(&rt, alloc, &mut out, "fix_jaggies.txt", sheets::fix_jaggies)?;
-    replayed(&rt, alloc, &mut out, "add_outline.txt", sheets::add_outline)?;
-    replayed(
-        &rt,
-        alloc,
-        &mut out,
-        "apply_saturation.txt",
-        sheets::apply_saturation,
-    )?;
-    replayed(&rt, alloc, &mut out, "run.txt", sheets::run)?;
-    Ok(())
+    colours::replay_files(&rt, alloc, &mut out)?;
+    regions::replay_files(&rt, alloc, &mut out)?;
+    sheets::replay_files(&rt, alloc, &mut out)
 }

@@ -1,12 +1,16 @@
 // Cases of the entries on sheets and palettes.
 use crate::lent::Lent;
+use crate::replayed;
 use replay::{Comparison, Numbers};
 use silk_c::{
     silk_add_outline, silk_apply_saturation, silk_fix_jaggies, silk_remove_orphans, silk_run,
 };
 use std::alloc::{AllocError, Global};
+use std::io;
+use std::io::Write;
+use std::rt::Files;
 
-pub fn remove_orphans(alloc: Global, mut case: Numbers<'_>) -> Result<bool, AllocError> {
+fn remove_orphans(alloc: Global, mut case: Numbers<'_>) -> Result<bool, AllocError> {
     let mut cells = Lent::<i32>::list(alloc, &mut case)?;
     let h = case.size();
     let w = case.size();
@@ -34,7 +38,7 @@ pub fn remove_orphans(alloc: Global, mut case: Numbers<'_>) -> Result<bool, Allo
     Ok(facts.compared(found).holds())
 }
 
-pub fn fix_jaggies(alloc: Global, mut case: Numbers<'_>) -> Result<bool, AllocError> {
+fn fix_jaggies(alloc: Global, mut case: Numbers<'_>) -> Result<bool, AllocError> {
     let mut cells = Lent::<i32>::list(alloc, &mut case)?;
     let h = case.size();
     let w = case.size();
@@ -72,7 +76,7 @@ impl Line {
     }
 }
 
-pub fn add_outline(alloc: Global, mut case: Numbers<'_>) -> Result<bool, AllocError> {
+fn add_outline(alloc: Global, mut case: Numbers<'_>) -> Result<bool, AllocError> {
     let mut cells = Lent::<i32>::list(alloc, &mut case)?;
     let h = case.size();
     let w = case.size();
@@ -104,7 +108,7 @@ pub fn add_outline(alloc: Global, mut case: Numbers<'_>) -> Result<bool, AllocEr
     Ok(facts.compared(found).holds())
 }
 
-pub fn apply_saturation(alloc: Global, mut case: Numbers<'_>) -> Result<bool, AllocError> {
+fn apply_saturation(alloc: Global, mut case: Numbers<'_>) -> Result<bool, AllocError> {
     let mut palette = Lent::<f64>::list(alloc, &mut case)?;
     let k = case.size();
     let beta = case.element::<f64>();
@@ -156,7 +160,7 @@ impl Settings {
     }
 }
 
-pub fn run(alloc: Global, mut case: Numbers<'_>) -> Result<bool, AllocError> {
+fn run(alloc: Global, mut case: Numbers<'_>) -> Result<bool, AllocError> {
     let mut cells = Lent::<i32>::list(alloc, &mut case)?;
     let h = case.size();
     let w = case.size();
@@ -191,4 +195,14 @@ pub fn run(alloc: Global, mut case: Numbers<'_>) -> Result<bool, AllocError> {
     let found = cells.compared(Comparison::answered(case, answer));
     let found = palette.compared(found);
     Ok(facts.compared(found).holds())
+}
+
+// Replays the files of the entries on sheets and palettes.
+pub fn replay_files<R: Files, W: Write>(files: &R, alloc: Global, out: &mut W) -> io::Result<()> {
+    replayed(files, alloc, out, "remove_orphans.txt", remove_orphans)?;
+    replayed(files, alloc, out, "fix_jaggies.txt", fix_jaggies)?;
+    replayed(files, alloc, out, "add_outline.txt", add_outline)?;
+    replayed(files, alloc, out, "apply_saturation.txt", apply_saturation)?;
+    replayed(files, alloc, out, "run.txt", run)?;
+    Ok(())
 }

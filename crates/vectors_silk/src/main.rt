@@ -2,87 +2,107 @@
 // A case is three lines: its name, the text, and the answer. In a line \n stands for byte 10, \xHH for the byte of these hex digits, and <C*NNNNNN> for so many bytes C.
 #![tactic(auto)]
 
-ghost use Rattle.std.specs.Prelude.{◌<◌, length, IfSome};
+ghost use Rattle.std.specs.Prelude.{◌≡◌, ◌-◌, ◌<◌, ◌≤◌, length, IfOk};
 
+use reading::{Filled, read_full};
 use replay::{Total, report_total};
-use silk_reply::{ROOM, Served, TEXT, serve};
+use silk_reply::{ROOM, TEXT, serve};
 use std::alloc::{AllocError, Global};
 use std::io::Write;
 use std::rt::Files;
 use std::{fs, io};
 
-// The value of a digit, in decimal or in lower-case hex.
+// Room for the file.
+const CASES: usize = 262144;
+
+// Room for what a line stands for.
+const LINE: usize = 131072;
+
+// The value of a digit, in decimal or in lower-case hex, 0 for any other byte.
 fn digit(c: u8) -> u8
     ensures { result < 16 }
 {
     match c {
-        b'0'..=b'9' => c - b'0',
-        b'a'..=b'f' => c - b'a' + 10,
-        _ => 0,
+        b'A'..=b'F' => 0,
+        _ => char::from(c).to_digit(16).unwrap_or(0) as u8,
     }
 }
 
-// The number that decimal digits write.
-fn number(digits: &[u8]) -> usize {
-    digits.iter().fold(0, |n: usize, c| {
-        n.saturating_mul(10).saturating_add(usize::from(digit(*c)))
-    })
-}
-
-// So many times a byte, which a part of a line stands for.
+// So many times a byte, which some bytes of a line stand for, and how many bytes these are.
 #[derive(Clone, Copy, Debug, PartialEq, Eq)]
 struct Run {
     byte: u8,
     many: usize,
+    taken: usize,
 }
 
-// What the first part of a line stands for, and the rest of the line.
-fn first_run(line: &[u8]) -> Option<(Run, &[u8])>
-    ensures { IfSome result (λ p. length p.1.now < length line.now) }
-{
-    match line {
-        [b'\\', b'n', rest @ ..] => Some((
-            Run {
+// What is left of the cases.
+#[derive(Clone, Copy, Debug)]
+struct Cases<'a>(&'a [u8]);
+
+impl<'a> Cases<'a> {
+    // The byte at a place, and a line end past the last.
+    fn at(self, i: usize) -> u8 {
+        self.0.get(i).copied().unwrap_or(b'\n')
+    }
+
+    // The number that six digits write.
+    fn number(self) -> usize {
+        (3..9).fold(0, |n: usize, i| {
+            n.saturating_mul(10)
+                .saturating_add(usize::from(digit(self.at(i))))
+        })
+    }
+
+    // What the first bytes stand for.
+    fn run(self) -> Run
+        ensures { 0 < result.taken }
+    {
+        match self.at(0) {
+            b'\\' if self.at(1) == b'n' => Run {
                 byte: b'\n',
                 many: 1,
+                taken: 2,
             },
-            rest,
-        )),
-        [b'\\', b'x', high, low, rest @ ..] => Some((
-            Run {
-                byte: digit(*high) * 16 + digit(*low),
+            b'\\' => Run {
+                byte: digit(self.at(2)) * 16 + digit(self.at(3)),
                 many: 1,
+                taken: 4,
             },
-            rest,
-        )),
-        [b'<', byte, b'*', a, b, c, d, e, f, b'>', rest @ ..] => Some((
-            Run {
-                byte: *byte,
-                many: number(&[*a, *b, *c, *d, *e, *f]),
+            b'<' => Run {
+                byte: self.at(1),
+                many: self.number(),
+                taken: 10,
             },
-            rest,
-        )),
-        [byte, rest @ ..] => Some((
-            Run {
-                byte: *byte,
+            byte => Run {
+                byte,
                 many: 1,
+                taken: 1,
             },
-            rest,
-        )),
-        [] => None,
+        }
     }
-}
 
-// The bytes that a line stands for.
-fn bytes_of(alloc: Global, line: &[u8]) -> Result<Vec<u8>, AllocError> {
-    let mut bytes = Vec::new(alloc);
-    let mut rest = line;
-    while let Some((run, tail)) = first_run(rest) {
-        let len = bytes.len().saturating_add(run.many);
-        bytes.resize(len, run.byte)?;
-        rest = tail;
+    // Goes past so many bytes.
+    fn pass(&mut self, count: usize)
+        ensures { length self.new.0.now ≡ length self.old.0.now - count }
+    {
+        self.0 = self.0.get(count..).unwrap_or(&[]);
     }
-    Ok(bytes)
+
+    // Reads a line, and gives the bytes that it stands for, as far as there is room for them.
+    fn line(&mut self, alloc: Global) -> Result<Vec<u8>, AllocError>
+        ensures { IfOk result (λ _. length self.new.0.now ≤ length self.old.0.now - 1) }
+    {
+        let mut bytes = Vec::new(alloc);
+        while !self.0.is_empty() && self.at(0) != b'\n' {
+            let Run { byte, many, taken } = self.run();
+            let len = usize::min(bytes.len().saturating_add(many), LINE);
+            bytes.resize(len, byte)?;
+            self.pass(taken);
+        }
+        self.pass(1);
+        Ok(bytes)
+    }
 }
 
 // Whether the program's work gives this answer to a text. Both go by way of files.
@@ -99,57 +119,53 @@ fn serve_files<F: Files>(files: &F) -> io::Result<()> {
     let mut out = [0u8; ROOM];
     let mut from = fs::open(files, "text")?;
     let mut to = fs::create(files, "answer")?;
-    let Served {
-        read: _,
-        put: _,
-        whole,
-        written,
-    } = serve(&mut from, &mut to, &mut text, &mut out);
-    whole?;
-    written
+    serve(&mut from, &mut to, &mut text, &mut out).done()
 }
 
-// Replays a case, and prints its name if its answer differs. The answer is whether it does.
+// Replays the next case, and prints its name if its answer differs. The answer is whether it does.
 fn case_differs<R: Files + AllocGlobal, W: Write>(
     rt: &R,
     to: &mut W,
-    name: &[u8],
-    text: &[u8],
-    answer: &[u8],
-) -> io::Result<bool> {
+    cases: &mut Cases<'_>,
+) -> io::Result<bool>
+    ensures { IfOk result (λ _. length cases.new.0.now ≤ length cases.old.0.now - 1) }
+{
     let alloc = rt.alloc();
-    let text = bytes_of(alloc, text)?;
-    let answer = bytes_of(alloc, answer)?;
+    let name = cases.line(alloc)?;
+    let text = cases.line(alloc)?;
+    let answer = cases.line(alloc)?;
     if gives(rt, &text, &answer)? {
         return Ok(false);
     }
-    let name = bytes_of(alloc, name)?;
     to.write_all(&name)?;
     to.write_all(b" differs\n")?;
     Ok(true)
 }
 
-// Replays the cases of a file. The answer is whether none differs.
+// Replays the cases of a file that was read to the front of a buffer; the last so many bytes of that are spare. The answer is whether none differs.
 fn replay_all<R: Files + AllocGlobal, W: Write>(
     rt: &R,
     to: &mut W,
-    file: &[u8],
+    buffer: &[u8],
+    spare: usize,
 ) -> io::Result<bool> {
-    let lines: Vec<&[u8]> = file.split(|c| *c == b'\n').collect(rt.alloc())?;
+    let mut cases = Cases(buffer);
     let mut total = Total::default();
-    for case in lines.as_slice().chunks_exact(3) {
-        if let [name, text, answer] = case {
-            total.add(case_differs(rt, to, *name, *text, *answer)?);
-        }
+    while cases.0.len() > spare {
+        total.add(case_differs(rt, to, &mut cases)?);
     }
-    report_total(to, "silk_cases.txt", total)?;
+    report_total(to, b"silk_cases.txt", total)?;
     Ok(total.none_differs())
 }
 
 // Replays the file of cases.
 fn main(rt: HostRuntime) -> io::Result<()> {
-    let file = fs::read(&rt, "silk_cases.txt")?;
+    let mut buffer = vec![in rt.alloc(); 0; CASES]?;
+    let mut file = fs::open(&rt, "silk_cases.txt")?;
+    let Filled { count, whole } = read_full(&mut file, &mut buffer);
+    whole?;
+    let spare = buffer.len() - count;
     let mut out = rt.stdout();
-    replay_all(&rt, &mut out, &file)?;
+    replay_all(&rt, &mut out, &buffer, spare)?;
     Ok(())
 }

@@ -3,7 +3,7 @@ use Rattle.std.proofs.Common.{◌≡◌, ℕ, ◌≤◌, List, [], ◌++◌, len
 use Rattle.std.proofs.lemmas.List.{append-nil, drop_all, take_all}
 use Rattle.replay.specs.declared.text.TheConstants.{TEXT}
 use Rattle.replay.specs.Texts.{numbers_in}
-use Rattle.replay.proofs.text.read.Goals as goal
+use Rattle.replay.proofs.text.read_to_vec.Goals as goal
 
 -- a front is no longer than the list
 front_fits : (n : ℕ) (b : List ℕ) → n ≤ length b → length b ≡ TEXT → length (take n b) ≤ TEXT
