@@ -31,6 +31,20 @@ fn ahead(p: usize, step: usize, i: usize, n: usize) -> usize
     p
 }
 
+// Whether one of two holds. Of a row of these the compiler makes vector code, of `|` it does not.
+fn either(a: bool, b: bool) -> bool
+    ensures { result ≡ (a || b) }
+{
+    a || b
+}
+
+// A test as a number, 1 or 0; likewise.
+fn mark(b: bool) -> u32
+    ensures { result ≡ cond b 1 0 }
+{
+    if b { 1 } else { 0 }
+}
+
 impl Lent<'_> {
     ghost use Rattle.rules.specs.Outline.{ring, has_ring};
     ghost use Rattle.outline.specs.Standing.{sheet_on};
@@ -46,7 +60,7 @@ impl Lent<'_> {
         let below = solid(cells, ahead(p, w, y, h));
         let left = solid(cells, back(p, 1, x));
         let right = solid(cells, ahead(p, 1, x, w));
-        let near = (above | below) | (left | right);
+        let near = either(either(above, below), either(left, right));
         if solid(cells, p) {
             return false;
         }
@@ -61,9 +75,9 @@ impl Lent<'_> {
         let last = self.w - 1;
         let mut found = self.ring_at(y, 0);
         for x in 1..last {
-            found = self.ring_at(y, x) | found;
+            found = either(self.ring_at(y, x), found);
         }
-        self.ring_at(y, last) | found
+        either(self.ring_at(y, last), found)
     }
 
     // Whether there is a ring.
@@ -82,7 +96,7 @@ impl Lent<'_> {
         ensures { marks.new ≡ set marks.old (y * self.entry.w + x) (cond (ring (sheet_on self.entry) (y * self.entry.w + x)) 1 0) }
     {
         let p = y * self.w + x;
-        marks[p] = u32::from(self.ring_at(y, x));
+        marks[p] = mark(self.ring_at(y, x));
     }
 
     // Marks row y. Its ends are apart: between them every cell has one to its left and one to its right.

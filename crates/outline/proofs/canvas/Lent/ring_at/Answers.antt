@@ -1,7 +1,7 @@
 -- The four places that are looked at, then the cell itself. Assumes nothing.
 use Prim.Native.Nat.{ℕ, ◌+◌, ◌*◌, ◌<◌}
-use mathlib.Core.Path.{refl, sym, ap, ◌∙◌}
-use mathlib.Core.Bool.{Bool}
+use mathlib.Core.Path.{refl, sym, ap, ap₂, ◌∙◌}
+use mathlib.Core.Bool.{Bool, ◌||◌}
 use native.Mathlib.Omega.{arith}
 use Rattle.rules.specs.Regions.{opaque}
 use Rattle.grid.proofs.Places.{area as area-fits}
@@ -43,7 +43,8 @@ returns-then-solid c = sym (ring-opaque _ (spot c.requires) (sym c.solid.ensures
 pub returns : goal.returns
 returns c =
     let look : ℕ → Bool = opaque c.args.self.cells.now in
-    ring-near _ (spot c.requires) (sym c.solid.ensures ∙ c.if-solid.false)
+    c.either-near.ensures ∙ ap₂ (λ (a b : Bool). a || b) c.either.ensures c.either-2.ensures
+    ∙ ring-near _ (spot c.requires) (sym c.solid.ensures ∙ c.if-solid.false)
     (c.solid-above.ensures ∙ ap look c.back.ensures)
     (c.solid-below.ensures ∙ ap look c.ahead.ensures)
     (c.solid-left.ensures ∙ ap look c.back-2.ensures)

@@ -21,10 +21,10 @@ loop-x-preserved c =
     record {
       low = omega arith;
       high = omega arith;
-      told = any_last (row c.args.self c.args.y) (x + 1) x x refl (omega arith) (omega arith) c.ring_at-found-in-loop-x.ensures c.loop-x.invariant.told;
+      told = c.either-found.ensures ∙ any_last (row c.args.self c.args.y) (x + 1) x x refl (omega arith) (omega arith) c.ring_at.ensures c.loop-x.invariant.told;
     }
 
 pub returns : goal.returns
 returns c =
     let a = c.args in
-    any_last (row a.self a.y) a.self.w (a.self.w - 1) c.loop-x.x (omega arith) c.loop-x.invariant.high (omega arith) c.ring_at.ensures c.loop-x.invariant.told
+    c.either.ensures ∙ any_last (row a.self a.y) a.self.w (a.self.w - 1) c.loop-x.x (omega arith) c.loop-x.invariant.high (omega arith) c.ring_at-2.ensures c.loop-x.invariant.told
