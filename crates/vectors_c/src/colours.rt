@@ -43,8 +43,8 @@ fn paired<B: Kind, F: Fn(&[f64], &[f64], &mut [B]) -> u32>(
     Ok(out.compared(found).holds())
 }
 
-// Replays the files of the entries over lists of colours, and of the one that reads hex.
-pub fn replay_files<R: Files, W: Write>(files: &R, alloc: Global, out: &mut W) -> io::Result<()> {
+// Replays the files of the two conversions.
+fn replay_conversions<R: Files, W: Write>(files: &R, alloc: Global, out: &mut W) -> io::Result<()> {
     replayed(
         files,
         alloc,
@@ -59,6 +59,12 @@ pub fn replay_files<R: Files, W: Write>(files: &R, alloc: Global, out: &mut W) -
         "lab_to_rgb8.txt",
         |alloc, case| converted(alloc, case, silk_lab_to_rgb8),
     )?;
+    Ok(())
+}
+
+// Replays the files of the entries over lists of colours, and of the one that reads hex.
+pub fn replay_files<R: Files, W: Write>(files: &R, alloc: Global, out: &mut W) -> io::Result<()> {
+    replay_conversions(files, alloc, out)?;
     replayed(
         files,
         alloc,
