@@ -30,7 +30,7 @@ abbrev pub sheet_in : LentSheet → Sheet
 sheet_in l = sheet_of l.cells l.height l.width
 
 -- what a lent list holds after a list was written over it, from the first on
-unfoldable pub over : List ℤ → List ℤ → List ℤ
+unfoldable pub over : {A : Type 0} → List A → List A → List A
 over new lent = new ++ drop (length new) lent
 
 -- the needed cells: h × w, or (h + 2) × (w + 2) if padding applies
