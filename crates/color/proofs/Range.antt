@@ -191,7 +191,7 @@ dist2_double p q h g =
     let d1 = p.a ⊖ q.a in
     let d2 = p.b ⊖ q.b in
     record {
-      held = add-fits binary64 (d0 ⊗ d0 ⊕ d1 ⊗ d1) (d2 ⊗ d2);
+      representable = add-fits binary64 (d0 ⊗ d0 ⊕ d1 ⊗ d1) (d2 ⊗ d2);
       sign = total (d0 ⊗ d0) (d1 ⊗ d1) (d2 ⊗ d2) (part p.l q.l h.light g.light) (part p.a q.a h.first g.first) (part p.b q.b h.second g.second);
     }
 

@@ -111,7 +111,7 @@ module _ (x : Float) (d : Double x) where
   y_value = round_val binary64 R (2 ^ 2272) g_lt
 
   y_double : Double y
-  y_double = record { held = round-fits binary64 false R (2 ^ 2272); sign = sign_of y _ _ y_value }
+  y_double = record { representable = round-fits binary64 false R (2 ^ 2272); sign = sign_of y _ _ y_value }
 
   y_mag : mag (to_bits binary64 y) ≡ g
   y_mag = mag_is y g y_double y_value
@@ -134,14 +134,14 @@ module _ (x : Float) (d : Double x) where
   not_below l =
       let m : mag (to_bits binary64 y) < Z = mag_lt _ _ (lt→pattern (to_bits binary64 y) (to_bits binary64 s) y s (value_of y y_double) (value_of s s_nearest.double) l) in
       let n : 2 * (R * 2 ^ 1074) ≤ (g + Z) * 2 ^ 2272 = nearest_up (R * 2 ^ 1074) (2 ^ 2272) (pow_pos 2272) (to_bits binary64 s) (subst (λ (z : ℕ). z < Z) y_mag m) in
-      let h : (g + Z) ^ 2 * 2 ^ 1074 < B * (2 * 2 ^ 1074) ^ 2 = power_lt 2 (g + Z) (2 * 2 ^ 1074) (mid_num s y) (mid_den s y) B (2 ^ 1074) halfway two_pos (s_nearest.under y y_double l) in
+      let h : (g + Z) ^ 2 * 2 ^ 1074 < B * (2 * 2 ^ 1074) ^ 2 = power_lt 2 (g + Z) (2 * 2 ^ 1074) (mid_num s y) (mid_den s y) B (2 ^ 1074) halfway two_pos (s_nearest.smaller y y_double l) in
       not_up (g + Z) R (twice_above N ((g + Z) * 2 ^ 1196) (lt_of_lt_of_le (halfway_less (g + Z) B h) (le_of_eq (sym N_is)))) n
 
   not_above : T (lt s y) → ⊥
   not_above l =
       let m : Z < mag (to_bits binary64 y) = mag_lt _ _ (lt→pattern (to_bits binary64 s) (to_bits binary64 y) s y (value_of s s_nearest.double) (value_of y y_double) l) in
       let n : (g + Z) * 2 ^ 2272 ≤ 2 * (R * 2 ^ 1074) = nearest_down (R * 2 ^ 1074) (2 ^ 2272) (pow_pos 2272) (to_bits binary64 s) (subst (λ (z : ℕ). Z < z) y_mag m) in
-      let h : B * (2 * 2 ^ 1074) ^ 2 < (g + Z) ^ 2 * 2 ^ 1074 = power_gt 2 (g + Z) (2 * 2 ^ 1074) (mid_num s y) (mid_den s y) B (2 ^ 1074) halfway two_pos (s_nearest.over y y_double l) in
+      let h : B * (2 * 2 ^ 1074) ^ 2 < (g + Z) ^ 2 * 2 ^ 1074 = power_gt 2 (g + Z) (2 * 2 ^ 1074) (mid_num s y) (mid_den s y) B (2 ^ 1074) halfway two_pos (s_nearest.larger y y_double l) in
       not_down (g + Z) R (twice_below N ((g + Z) * 2 ^ 1196) (lt_of_le_of_lt (le_of_eq N_is) (halfway_more (g + Z) B h))) n
 
   rounded_is : round binary64 false (root_twice (num x * 2 ^ 4542 / den x)) (2 ^ 2272) ≡ sqrt_of x
