@@ -54,15 +54,15 @@ abbrev at_limits : ℕ → ℕ → Limits
 at_limits region colour = limits_at (pos region) (whole colour)
 
 -- a palette of whole numbers, three for each entry
-abbrev colours : ℕ → List ℕ → Palette
-colours k l = record { lab = map whole l; count = k }
+abbrev entries : ℕ → List ℕ → Palette
+entries k l = record { lab = map whole l; count = k }
 
 -- the palette Q, and Q with another entry 2
 abbrev Q : Palette
-Q = colours 3 (0 ∷ 0 ∷ 0 ∷ 6 ∷ 8 ∷ 0 ∷ 3 ∷ 4 ∷ 0 ∷ [])
+Q = entries 3 (0 ∷ 0 ∷ 0 ∷ 6 ∷ 8 ∷ 0 ∷ 3 ∷ 4 ∷ 0 ∷ [])
 
 abbrev Q' : Palette
-Q' = colours 3 (0 ∷ 0 ∷ 0 ∷ 6 ∷ 8 ∷ 0 ∷ 6 ∷ 4 ∷ 0 ∷ [])
+Q' = entries 3 (0 ∷ 0 ∷ 0 ∷ 6 ∷ 8 ∷ 0 ∷ 6 ∷ 4 ∷ 0 ∷ [])
 
 -- a centre of 2 in a sheet of 0, and the sheet without it
 abbrev spot : Sheet
