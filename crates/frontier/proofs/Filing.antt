@@ -34,20 +34,20 @@ module _ (n from mid end : ℕ) (a b c : List ℕ) (label : (q : ℕ) → q < n 
       named' i l h =
           elim (dec_lt i mid) [
             | yes y ↦ (let w = u.named i l y in
-                let s = stays w.place (plane n 7 b i) w.inside w.label (λ z. absurd (omega (arith, w.number))) in
-                rw (v.kept i y) (record { place = w.place; inside = w.inside; label = w.label; free = w.free; number = omega (arith, w.number) }))
+                let s = stays w.place (plane n 7 b i) w.bound w.label (λ z. absurd (omega (arith, w.number))) in
+                rw (v.kept i y) (record { place = w.place; bound = w.bound; label = w.label; free = w.free; number = omega (arith, w.number) }))
             | no y ↦ (let w = v.named i (omega arith) h in
-                let e = sym (label w.place w.inside) ∙ w.label in
-                record { place = w.place; inside = w.inside; label = e; free = was w.place _ w.inside e w.free; number = w.number })
+                let e = sym (label w.place w.bound) ∙ w.label in
+                record { place = w.place; bound = w.bound; label = e; free = was w.place _ w.bound e w.free; number = w.number })
           ]
 
       all' : (l : ℕ) → Chosen n a c l → (i : ℕ) × (from ≤ i) × (i < end) × (plane n 7 c i ≡ l)
       all' l z =
           elim (ℕ_discrete (plane n 6 b l) 0) [
-            | yes o ↦ (let i = v.all l (record { place = z.place; inside = z.inside; label = label z.place z.inside ∙ z.label; free = o; number = z.number }) in
+            | yes o ↦ (let i = v.all l (record { place = z.place; bound = z.bound; label = label z.place z.bound ∙ z.label; free = o; number = z.number }) in
                 (i.0, omega (arith, i.1, u.rises), i.2, i.3))
-            | no o ↦ (let s = stays z.place l z.inside z.label o in
-                let i = u.all l (record { place = z.place; inside = z.inside; label = z.label; free = z.free; number = omega (arith, z.number) }) in
+            | no o ↦ (let s = stays z.place l z.bound z.label o in
+                let i = u.all l (record { place = z.place; bound = z.bound; label = z.label; free = z.free; number = omega (arith, z.number) }) in
                 (i.0, i.1, omega (arith, i.2, v.rises), v.kept i.0 i.2 ∙ i.3))
           ]
 
@@ -56,7 +56,7 @@ module _ (rule : Rule) (n at end : ℕ) (a b : List ℕ) (r : ℕ) (u : Noted ru
     (y : ℕ) (ly : y < n) (gy : plane n 1 a y ≡ suc at) where
   -- no other group is chosen
   only : (l : ℕ) → Chosen n a b l → l ≡ at
-  only l z = elim (ℕ_discrete l at) [ yes e ↦ e | no d ↦ (let s = u.numbers l (in_use z.place l z.inside z.label) d in absurd (omega (arith, z.free, z.number))) ]
+  only l z = elim (ℕ_discrete l at) [ yes e ↦ e | no d ↦ (let s = u.numbers l (in_use z.place l z.bound z.label) d in absurd (omega (arith, z.free, z.number))) ]
 
   -- it is not
   filed_none : (Chosen n a b at → ⊥) → r ≡ end → Filed n a b end r
@@ -79,7 +79,7 @@ module _ (rule : Rule) (n at end : ℕ) (a b : List ℕ) (r : ℕ) (u : Noted ru
                 rises = omega (arith, w.0);
                 kept = u.log;
                 named = λ i l h. let e : i ≡ end = omega (arith, w.0) in
-                    rw (ap (plane n 7 b) e ∙ w.1) (record { place = y; inside = ly; label = gy; free = f; number = two });
+                    rw (ap (plane n 7 b) e ∙ w.1) (record { place = y; bound = ly; label = gy; free = f; number = two });
                 all = λ l c. (end, omega arith, omega (arith, w.0), w.1 ∙ sym (only l c));
               })
         ])

@@ -115,7 +115,7 @@ gained_same f g u = record {
   len = u.len;
   growth = u.growth;
   same = u.same;
-  flags = λ q l. ⊎_elim inl (λ z. let c = z.1 in inr (z.0, record { by = c.by; inside = c.inside; named = f c.by c.inside c.named; label = c.label; group = c.group; little = c.little })) (u.flags q l);
+  flags = λ q l. ⊎_elim inl (λ z. let c = z.1 in inr (z.0, record { by = c.by; bound = c.bound; named = f c.by c.bound c.named; label = c.label; group = c.group; little = c.little })) (u.flags q l);
   told = λ q l z y. u.told q l (g q l z) y;
   rises = u.rises;
   kept = u.kept;
@@ -165,18 +165,18 @@ module _ {grid : Grid} {first second : ℕ → Type 0} {a b c : List ℕ} {from 
       flags' : (q : ℕ) → q < area_of grid → (plane (area_of grid) 5 c q ≡ plane (area_of grid) 5 a q) ⊎ ((plane (area_of grid) 5 c q ≡ 1) × Cause (area_of grid) a (λ x. first x ⊎ second x) q)
       flags' q l =
           ⊎_elim
-          (λ e. ⊎_elim (λ f. inl (e ∙ f)) (λ f. let z = f.1 in inr (e ∙ f.0, record { by = z.by; inside = z.inside; named = inl z.named; label = z.label; group = z.group; little = z.little })) (u.flags q l))
+          (λ e. ⊎_elim (λ f. inl (e ∙ f)) (λ f. let z = f.1 in inr (e ∙ f.0, record { by = z.by; bound = z.bound; named = inl z.named; label = z.label; group = z.group; little = z.little })) (u.flags q l))
           (λ e. let z = e.1 in
-          let i = label_mid z.by z.inside in
+          let i = label_mid z.by z.bound in
           inr (
             e.0,
             record {
               by = z.by;
-              inside = z.inside;
+              bound = z.bound;
               named = inr z.named;
               label = rw i at z.label;
               group = sym (label_mid q l) ∙ z.group ∙ i;
-              little = case (large_of (area_of grid) a z.by) (λ y. clash (gained_old u z.by z.inside y) z.little) (λ y. y);
+              little = case (large_of (area_of grid) a z.by) (λ y. clash (gained_old u z.by z.bound y) z.little) (λ y. y);
             },
           ))
           (v.flags q l)
@@ -311,7 +311,7 @@ module _ (grid : Grid) (end : ℕ) (a : List ℕ) (g : Growth grid end a) (q at 
       growth = growth_grown;
       same = off;
       flags = λ x l. elim (ℕ_discrete (plane n 1 a x) (suc at)) [
-        | yes e ↦ inr (mine x l e, record { by = q; inside = lq; named = is; label = omega arith; group = e ∙ sym eq; little = lit })
+        | yes e ↦ inr (mine x l e, record { by = q; bound = lq; named = is; label = omega arith; group = e ∙ sym eq; little = lit })
         | no d ↦ inl (other x l d)
       ];
       told = λ x l z y. big_one n c x (mine x l (ap (plane n 1 a) (only x z) ∙ eq));

@@ -14,15 +14,15 @@ use Rattle.rules.specs.Pass.{Rule, State, large, small, Verdict, stay, merge, fr
 use Rattle.rules.proofs.Roots.{join_same}
 use Rattle.rules.proofs.Passes.{small_or_large, unpainted_kept}
 use Rattle.rules.proofs.Groups.{Ready, Grows, takes, joins, Grown, group-large, group-repaints}
-use Rattle.verdicts.specs.Judging.{code}
+use Rattle.verdicts.specs.Judging.{fate_number}
 use Rattle.frontier.specs.Growing.{Logged}
 
 -- a region is repainted exactly if its number is 2 or more
-pub merges-code : (w : Verdict) → merges w ≡ leb 2 (code w)
-unfolding merges code
-merges-code stay = refl
-merges-code (merge c d) = sym (yes_leb {m = 2} {n = c + 2} (omega arith))
-merges-code (freeze c d) = refl
+pub merges-number : (w : Verdict) → merges w ≡ leb 2 (fate_number w)
+unfolding merges fate_number
+merges-number stay = refl
+merges-number (merge c d) = sym (yes_leb {m = 2} {n = c + 2} (omega arith))
+merges-number (freeze c d) = refl
 
 -- Since the pass's start `big` was told of some groups, each as a whole, that become large in it
 pub record Growing (rule : Rule) (s : State) (group : ℕ → ℕ) (big₀ big : ℕ → Bool) : Type 0 where

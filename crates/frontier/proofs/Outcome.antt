@@ -20,9 +20,9 @@ use Rattle.grid.specs.declared.Grid.{Grid}
 use Rattle.grid.specs.Planes.{plane, paint_of, cell_of, cells_of}
 use Rattle.grid.proofs.Planes.{cells_at, cells_paint}
 use Rattle.verdicts.specs.Steps.{area_of}
-use Rattle.verdicts.specs.Judging.{state_of, code, large_of}
+use Rattle.verdicts.specs.Judging.{state_of, fate_number, large_of}
 use Rattle.frontier.specs.Judging.{Chosen, Stage, Met}
-use Rattle.frontier.proofs.Growth.{merges-code, Growing, growing_start, absorbed_grows, growing_end}
+use Rattle.frontier.proofs.Growth.{merges-number, Growing, growing_start, absorbed_grows, growing_end}
 use Rattle.frontier.specs.Growing.{Logged, Listed, MatchesLogged, Repainted, Gained, Decided, Grew}
 use Rattle.frontier.proofs.Progress.{sound_ready}
 use Rattle.frontier.proofs.Repaints.{repainted_alike}
@@ -30,14 +30,14 @@ use Rattle.frontier.proofs.Gains.{big_same, logged_trans, gained_old, gained_ali
 use Rattle.frontier.proofs.Decided.{repainted_big, old_big, whole_still, log_still}
 
 -- the paint of a cell that is repainted, by the number of its fate
-painted-code : (v : Verdict) (z : ℤ) → merges v ≡ true → (painted v z ≡ cell_of (code v - 1)) × (paint_of (painted v z) + 1 ≡ code v)
-unfolding painted merges code paint_of cell_of
-painted-code stay z e = clash e refl
-painted-code (merge c d) z e = (let i : c + 2 - 1 ≡ suc c = omega arith in rw i, omega arith)
-painted-code (freeze c d) z e = clash e refl
+painted-number : (v : Verdict) (z : ℤ) → merges v ≡ true → (painted v z ≡ cell_of (fate_number v - 1)) × (paint_of (painted v z) + 1 ≡ fate_number v)
+unfolding painted merges fate_number paint_of cell_of
+painted-number stay z e = clash e refl
+painted-number (merge c d) z e = (let i : c + 2 - 1 ≡ suc c = omega arith in rw i, omega arith)
+painted-number (freeze c d) z e = clash e refl
 
 module _ {rule : Rule} {grid : Grid} {k : ℕ} {met : ℕ → Type 0} {a b : List ℕ} {from mid : ℕ} (st : Stage rule grid k from a) (u : Met rule grid k met a b from mid)
-    (ends : (x : ℕ) → x < rule.places → 0 < plane (area_of grid) 1 a x → code (fate (fates rule (state_of (area_of grid) a)) x) ≡ cond (eqb (plane (area_of grid) 6 a (plane (area_of grid) 1 a x - 1)) 0) (plane (area_of grid) 6 b (plane (area_of grid) 1 a x - 1)) 0) where
+    (ends : (x : ℕ) → x < rule.places → 0 < plane (area_of grid) 1 a x → fate_number (fate (fates rule (state_of (area_of grid) a)) x) ≡ cond (eqb (plane (area_of grid) 6 a (plane (area_of grid) 1 a x - 1)) 0) (plane (area_of grid) 6 b (plane (area_of grid) 1 a x - 1)) 0) where
   abbrev n : ℕ
   n = area_of grid
 
@@ -67,7 +67,7 @@ module _ {rule : Rule} {grid : Grid} {k : ℕ} {met : ℕ → Type 0} {a b : Lis
 
   repaints-is : (x : ℕ) → x < n → 0 < plane n 1 a x → repaints rule s x ≡ leb 2 (cond (eqb (plane n 6 a (plane n 1 a x - 1)) 0) (plane n 6 b (plane n 1 a x - 1)) 0)
   unfolding repaints
-  repaints-is x l z = merges-code (fate (fates rule s) x) ∙ ap (leb 2) (ends x (to-rule x l) z)
+  repaints-is x l z = merges-number (fate (fates rule s) x) ∙ ap (leb 2) (ends x (to-rule x l) z)
 
   -- a chosen group is repainted
   pub chosen_repaints : (x l : ℕ) → x < n → plane n 1 a x ≡ suc l → Chosen n a b l → repaints rule s x ≡ true
@@ -84,7 +84,7 @@ module _ {rule : Rule} {grid : Grid} {k : ℕ} {met : ℕ → Type 0} {a b : Lis
       let lab : plane n 1 a x ≡ suc l = omega arith in
       let t : leb 2 (cond (eqb (plane n 6 a l) 0) (plane n 6 b l) 0) ≡ true = sym (repaints-is x b' z) ∙ e in
       elim (ℕ_discrete (plane n 6 a l) 0) [
-        | yes f ↦ (b', l, lab, record { place = x; inside = b'; label = lab; free = f; number = leb_yes {m = 2} {n = plane n 6 b l} (rw f at t) })
+        | yes f ↦ (b', l, lab, record { place = x; bound = b'; label = lab; free = f; number = leb_yes {m = 2} {n = plane n 6 b l} (rw f at t) })
         | no d ↦ clash (rw (ne_eqb (plane n 6 a l) 0 d) at t) refl
       ]
 
@@ -98,9 +98,9 @@ module _ {rule : Rule} {grid : Grid} {k : ℕ} {met : ℕ → Type 0} {a b : Lis
       let lx = to-rule x m in
       let k1 : plane n 1 a x - 1 ≡ l = omega arith in
       let v = fate (fates rule s) x in
-      let t = painted-code v (at s.cells x) (chosen_repaints x l m e c) in
+      let t = painted-number v (at s.cells x) (chosen_repaints x l m e c) in
       let cell : at (pass rule s).cells x ≡ painted v (at s.cells x) = cell-at rule symm s len x lx ∙ ap (λ (y : Verdict). painted y (at s.cells x)) (sym (fate-at rule symm s len x lx)) in
-      let num : code v ≡ plane n 6 b l = ends x lx (omega arith) ∙ ap (λ (y : ℕ). cond (eqb (plane n 6 a y) 0) (plane n 6 b y) 0) k1 ∙ rw c.free refl in
+      let num : fate_number v ≡ plane n 6 b l = ends x lx (omega arith) ∙ ap (λ (y : ℕ). cond (eqb (plane n 6 a y) 0) (plane n 6 b y) 0) k1 ∙ rw c.free refl in
       (cell ∙ t.0 ∙ ap (λ (y : ℕ). cell_of (y - 1)) num, ap (λ (y : ℤ). paint_of y + 1) cell ∙ t.1 ∙ num)
 
   -- it is another place's paint
@@ -121,12 +121,12 @@ module _ {rule : Rule} {grid : Grid} {k : ℕ} {met : ℕ → Type 0} {a b : Lis
   met_decided old = record {
     sheet = u.stage.sheet;
     whole = whole_b;
-    groups = λ i l m. let c = u.log.named i l m in u.stage.sheet.groups c.place (plane n 7 b i) c.inside (label_b c.place c.inside ∙ c.label);
-    numbers = λ i l m. let c = u.log.named i l m in (c.number, omega (arith, number_known c.place (plane n 7 b i) c.inside c.label c, u.stage.known.few));
+    groups = λ i l m. let c = u.log.named i l m in u.stage.sheet.groups c.place (plane n 7 b i) c.bound (label_b c.place c.bound ∙ c.label);
+    numbers = λ i l m. let c = u.log.named i l m in (c.number, omega (arith, number_known c.place (plane n 7 b i) c.bound c.label c, u.stage.known.few));
     done = λ x t l e z. let ea : plane n 1 a x ≡ suc t = sym (label_b x l) ∙ e in
         let k1 : plane n 1 a x - 1 ≡ t = omega arith in
         elim (ℕ_discrete (plane n 6 a t) 0) [
-          | yes f ↦ inr (u.log.all t (record { place = x; inside = l; label = ea; free = f; number = z }))
+          | yes f ↦ inr (u.log.all t (record { place = x; bound = l; label = ea; free = f; number = z }))
           | no d ↦ (let same : plane n 6 b t ≡ plane n 6 a t = ⊎_elim (λ i. sym (ap (plane n 6 b) k1) ∙ i ∙ ap (plane n 6 a) k1) (λ i. absurd (d (sym (ap (plane n 6 a) k1) ∙ i.0))) (u.judging.each x (to-rule x l) (omega arith)) in
               inl (u.large x l ∙ old x t l ea (rw same at z)))
         ];
@@ -137,7 +137,7 @@ module _ {rule : Rule} {grid : Grid} {k : ℕ} {met : ℕ → Type 0} {a b : Lis
 
   module _ (dec : Decided grid from mid b) {d : List ℕ} {end : ℕ} (grew : Grew grid from mid b d end) where
     abbrev c : List ℕ
-    c = grew.between
+    c = grew.middle
 
     abbrev r : Repainted n (Listed n b from mid) b c
     r = grew.repainted
@@ -186,7 +186,7 @@ module _ {rule : Rule} {grid : Grid} {k : ℕ} {met : ℕ → Type 0} {a b : Lis
 
     logged_c : Logged n (plane n 1 a) (large_of n a) (large_of n c) (plane n 7 c) from mid
     logged_c = record {
-      named = λ i l m. let z = u.log.named i l m in (z.place, z.inside, z.label ∙ ap suc (sym (log_c i m)));
+      named = λ i l m. let z = u.log.named i l m in (z.place, z.bound, z.label ∙ ap suc (sym (log_c i m)));
       new = λ i x l m b' e. let e' : plane n 1 a x ≡ suc (plane n 7 b i) = e ∙ ap suc (log_c i m) in
           let rp = chosen_repaints x (plane n 7 b i) b' e' (u.log.named i l m) in (
             taken_big x (plane n 7 b i) b' (label_b x b' ∙ e') (i, l, m, refl),
@@ -216,9 +216,9 @@ module _ {rule : Rule} {grid : Grid} {k : ℕ} {met : ℕ → Type 0} {a b : Lis
           let t = f.named in
           let p = t.3.0 in
           let lab : plane n 1 a p ≡ suc (plane n 7 b t.0) = sym (label-c p t.3.1) ∙ t.3.2 ∙ ap suc (log_c t.0 t.2) in
-          let by-label = label-c f.by f.inside in
-          inr (absorbed_grows rule symm s (plane n 1 a) (large_of n a) (large rule (cells_of n a)) ready (large_of n c) growing_c (λ q b' e. done-c q e) p f.by (to-rule f.by f.inside) (rw by-label at f.label) f.little
-          (st.ruled.ways p f.by ∙ t.3.3.0) (chosen_repaints p (plane n 7 b t.0) t.3.1 lab (u.log.named t.0 t.1 t.2)) (same-cell p f.by t.3.1 f.inside (sym t.3.3.1))
+          let by-label = label-c f.by f.bound in
+          inr (absorbed_grows rule symm s (plane n 1 a) (large_of n a) (large rule (cells_of n a)) ready (large_of n c) growing_c (λ q b' e. done-c q e) p f.by (to-rule f.by f.bound) (rw by-label at f.label) f.little
+          (st.ruled.ways p f.by ∙ t.3.3.0) (chosen_repaints p (plane n 7 b t.0) t.3.1 lab (u.log.named t.0 t.1 t.2)) (same-cell p f.by t.3.1 f.bound (sym t.3.3.1))
           x l (sym (label-c x m) ∙ f.group ∙ by-label)))
           (v.flags x m);
       whole = λ x y l m z e. let lx = of_rule x l in let ly = of_rule y m in v.growth.whole x y lx ly (rw (label-d x lx) z) (label-d x lx ∙ e ∙ sym (label-d y ly));

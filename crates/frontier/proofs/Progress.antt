@@ -21,7 +21,7 @@ use Rattle.grid.specs.Planes.{plane, cells_of, end_of}
 use Rattle.grid.proofs.Planes.{cells_kept, cells-size}
 use Rattle.verdicts.specs.declared.large.Span.{Span}
 use Rattle.verdicts.specs.Steps.{area_of}
-use Rattle.verdicts.specs.Judging.{state_of, code, large_of, Sound}
+use Rattle.verdicts.specs.Judging.{state_of, fate_number, large_of, Sound}
 use Rattle.frontier.specs.Judging.{Judging, frozen_of, Noted, Stage, Met, Small}
 use Rattle.verdicts.specs.Groups.{Group}
 use Rattle.verdicts.proofs.Keeping.{sheet-few, group-alike}
@@ -106,7 +106,7 @@ module _ (rule : Rule) (symm : Symmetric rule.adj) (n : ℕ) (is-n : rule.places
           below : (x : ℕ) → x < rule.places → x < n
           below x l = rw (← is-n) l
 
-          each' : (x : ℕ) → x < rule.places → 0 < plane n 1 a₀ x → (plane n 6 b (plane n 1 a₀ x - 1) ≡ plane n 6 a₀ (plane n 1 a₀ x - 1)) ⊎ ((plane n 6 a₀ (plane n 1 a₀ x - 1) ≡ 0) × (plane n 6 b (plane n 1 a₀ x - 1) ≡ code (fate (fates rule s₀) x)))
+          each' : (x : ℕ) → x < rule.places → 0 < plane n 1 a₀ x → (plane n 6 b (plane n 1 a₀ x - 1) ≡ plane n 6 a₀ (plane n 1 a₀ x - 1)) ⊎ ((plane n 6 a₀ (plane n 1 a₀ x - 1) ≡ 0) × (plane n 6 b (plane n 1 a₀ x - 1) ≡ fate_number (fate (fates rule s₀) x)))
           each' x l h =
               elim (ℕ_discrete (plane n 1 a₀ x - 1) at) [
                 | no z ↦ (let e = other x (below x l) h z (in_use x (below x l) h) in ⊎_elim (λ i. inl (e ∙ i)) (λ i. inr (i.0, e ∙ i.1)) (u.each x l h))
@@ -116,7 +116,7 @@ module _ (rule : Rule) (symm : Symmetric rule.adj) (n : ℕ) (is-n : rule.places
                   | yes z ↦ (let gx : plane n 1 a₀ x ≡ suc at = omega arith in
                       inr (
                         ap (plane n 6 a₀) k ∙ free_was x at (below x l) gx z,
-                        ap (plane n 6 b) k ∙ w.right z x (below x l) (label_now x (below x l) ∙ gx) ∙ ap code (fate-same x at (below x l) gx z),
+                        ap (plane n 6 b) k ∙ w.right z x (below x l) (label_now x (below x l) ∙ gx) ∙ ap fate_number (fate-same x at (below x l) gx z),
                       ))
                 ])
               ]
@@ -178,11 +178,11 @@ met_fewer f u = record {
 
 -- a small group that another place names
 pub renamed : {n l : ℕ} {a : List ℕ} {near far : ℕ → Type 0} (z : Small n a near l) → far z.place → Small n a far l
-renamed z y = record { place = z.place; named = y; inside = z.inside; little = z.little; label = z.label }
+renamed z y = record { place = z.place; named = y; bound = z.bound; little = z.little; label = z.label }
 
 -- the small groups by another name of their places
 pub met_as : {rule : Rule} {grid : Grid} {k : ℕ} {near far : ℕ → Type 0} {a b : List ℕ} {from end : ℕ} → ((q : ℕ) → q < area_of grid → far q → near q) → Met rule grid k (Small (area_of grid) a near) a b from end → Met rule grid k (Small (area_of grid) a far) a b from end
-met_as f = met_fewer (λ l z. renamed z (f z.place z.inside z.named))
+met_as f = met_fewer (λ l z. renamed z (f z.place z.bound z.named))
 
 -- a group is where it was
 pub met_group : {rule : Rule} {grid : Grid} {k : ℕ} {met : ℕ → Type 0} {a b : List ℕ} {from end at : ℕ} → Met rule grid k met a b from end → Group (area_of grid) a at → Group (area_of grid) b at
@@ -254,7 +254,7 @@ module _ {rule : Rule} {grid : Grid} {k from : ℕ} {a : List ℕ} (st : Stage r
             let lt : t < n = (u.stage.sheet.groups x t l (u.same 1 x (omega arith) l ∙ y)).label in
             elim (ℕ_discrete t at) [ no d ↦ v.numbers t lt d | yes i ↦ ap (plane n 6 c) i ∙ v.done (λ q. z (ap (plane n 6 b) i ∙ q)) ∙ ap (plane n 6 b) (sym i) ]
 
-        numbered' : (x t : ℕ) → x < n → plane n 1 a x ≡ suc t → met t ⊎ (t ≡ at) → plane n 6 a t ≡ 0 → plane n 6 c t ≡ code (fate (fates rule (state_of n a)) x)
+        numbered' : (x t : ℕ) → x < n → plane n 1 a x ≡ suc t → met t ⊎ (t ≡ at) → plane n 6 a t ≡ 0 → plane n 6 c t ≡ fate_number (fate (fates rule (state_of n a)) x)
         numbered' x t l y z f =
             let lt : t < n = (u.stage.sheet.groups x t l (u.same 1 x (omega arith) l ∙ y)).label in
             let k1 : plane n 1 a x - 1 ≡ t = omega arith in
@@ -264,7 +264,7 @@ module _ {rule : Rule} {grid : Grid} {k from : ℕ} {a : List ℕ} (st : Stage r
                 | yes o ↦ (let o' : plane n 6 b at ≡ 0 = rw i at o in
                     let y' : plane n 1 a x ≡ suc at = rw i at y in
                     ap (plane n 6 c) i ∙ v.right o' x l (u.same 1 x (omega arith) l ∙ y')
-                    ∙ ap code (fate-same rule symm n e a b (large_of n a) (large rule (cells_of n a)) ready thaw_at u.same u.judging x at l y' o'))
+                    ∙ ap fate_number (fate-same rule symm n e a b (large_of n a) (large rule (cells_of n a)) ready thaw_at u.same u.judging x at l y' o'))
                 | no o ↦ (let done : plane n 6 c t ≡ plane n 6 b t = ap (plane n 6 c) i ∙ v.done (λ q. o (ap (plane n 6 b) i ∙ q)) ∙ ap (plane n 6 b) (sym i) in
                     ⊎_elim (λ q. absurd (o (sym (ap (plane n 6 b) k1) ∙ q ∙ ap (plane n 6 a) k1 ∙ f))) (λ q. done ∙ sym (ap (plane n 6 b) k1) ∙ q.1) (u.judging.each x (rw e l) (omega arith)))
               ])
@@ -290,7 +290,7 @@ module _ {rule : Rule} {grid : Grid} {k from : ℕ} {a : List ℕ} (st : Stage r
         )
 
     -- the second judging, by the labels of a
-    each_then : (x : ℕ) → x < n → 0 < plane n 1 a x → (num c x ≡ num b x) ⊎ ((num b x ≡ 0) × (num c x ≡ code (fate (fates rule (state_of n b)) x)))
+    each_then : (x : ℕ) → x < n → 0 < plane n 1 a x → (num c x ≡ num b x) ⊎ ((num b x ≡ 0) × (num c x ≡ fate_number (fate (fates rule (state_of n b)) x)))
     each_then x l z = let i = label_mid x l in rw i at (v.judging.each x (rw e l) (rw i z))
 
     pub met_trans : Met rule grid k (λ l. first l ⊎ second l) a c from end
@@ -305,11 +305,11 @@ module _ {rule : Rule} {grid : Grid} {k from : ℕ} {a : List ℕ} (st : Stage r
       log = filed_trans n from mid end a b c label_mid was stays u.log v.log;
     }
       where
-        each' : (x : ℕ) → x < n → 0 < plane n 1 a x → (num c x ≡ num a x) ⊎ ((num a x ≡ 0) × (num c x ≡ code (fate (fates rule sa) x)))
+        each' : (x : ℕ) → x < n → 0 < plane n 1 a x → (num c x ≡ num a x) ⊎ ((num a x ≡ 0) × (num c x ≡ fate_number (fate (fates rule sa) x)))
         each' x l z =
             ⊎_elim
             (λ i. ⊎_elim (λ j. inl (i ∙ j)) (λ j. inr (j.0, i ∙ j.1)) (u.judging.each x (rw e l) z))
-            (λ i. let f = mid_free x l z i.0 in inr (f.0, i.1 ∙ ap code f.1))
+            (λ i. let f = mid_free x l z i.0 in inr (f.0, i.1 ∙ ap fate_number f.1))
             (each_then x l z)
 
         frozen' : (x : ℕ) → x < n → 0 < plane n 1 a x → frozen_of n c x ≡ (marked sa.frozen x || (eqb (num a x) 0 && eqb (num c x) 1))
@@ -335,7 +335,7 @@ module _ {rule : Rule} {grid : Grid} {k from : ℕ} {a : List ℕ} (st : Stage r
             let nb : num b x ≡ plane n 6 b t = ap (plane n 6 b) k1 in
             sym (ap (plane n 6 c) k1) ∙ ⊎_elim (λ i. i) (λ i. absurd (z (sym nb ∙ i.0))) (each_then x l (omega arith)) ∙ nb
 
-        numbered' : (x t : ℕ) → x < n → plane n 1 a x ≡ suc t → first t ⊎ second t → plane n 6 a t ≡ 0 → plane n 6 c t ≡ code (fate (fates rule sa) x)
+        numbered' : (x t : ℕ) → x < n → plane n 1 a x ≡ suc t → first t ⊎ second t → plane n 6 a t ≡ 0 → plane n 6 c t ≡ fate_number (fate (fates rule sa) x)
         numbered' x t l y z f =
             let k1 : plane n 1 a x - 1 ≡ t = omega arith in
             let some : 0 < plane n 1 a x = omega arith in
@@ -344,8 +344,8 @@ module _ {rule : Rule} {grid : Grid} {k from : ℕ} {a : List ℕ} (st : Stage r
             let na : num a x ≡ 0 = ap (plane n 6 a) k1 ∙ f in
             elim (ℕ_discrete (num b x) 0) [
               | yes o ↦ ⊎_elim
-                  (λ i. ⊎_elim (λ j. sym nc ∙ j ∙ nb ∙ u.numbered x t l y i f) (λ j. sym nc ∙ j.1 ∙ ap code (mid_free x l some o).1) (each_then x l some))
-                  (λ i. v.numbered x t l (label_mid x l ∙ y) i (sym nb ∙ o) ∙ ap code (mid_free x l some o).1)
+                  (λ i. ⊎_elim (λ j. sym nc ∙ j ∙ nb ∙ u.numbered x t l y i f) (λ j. sym nc ∙ j.1 ∙ ap fate_number (mid_free x l some o).1) (each_then x l some))
+                  (λ i. v.numbered x t l (label_mid x l ∙ y) i (sym nb ∙ o) ∙ ap fate_number (mid_free x l some o).1)
                   z
               | no o ↦ (let j : num c x ≡ num b x = ⊎_elim (λ q. q) (λ q. absurd (o q.0)) (each_then x l some) in
                   ⊎_elim (λ q. absurd (o (q ∙ na))) (λ q. sym nc ∙ j ∙ q.1) (u.judging.each x (rw e l) some))
@@ -355,7 +355,7 @@ module _ {rule : Rule} {grid : Grid} {k from : ℕ} {a : List ℕ} (st : Stage r
 
   -- none is
   pub met_none : {near : ℕ → Type 0} → ((q : ℕ) → q < n → near q → ⊥) → Met rule grid k (Small n a near) a a from from
-  met_none f = met_fewer (λ l z. absurd (f z.place z.inside z.named)) met_start
+  met_none f = met_fewer (λ l z. absurd (f z.place z.bound z.named)) met_start
 
   -- first these are judged, and then those
   pub met_more : {first second near : ℕ → Type 0} {mid end : ℕ} {b c : List ℕ} → ((q : ℕ) → q < n → near q → first q ⊎ second q) →
@@ -364,10 +364,10 @@ module _ {rule : Rule} {grid : Grid} {k from : ℕ} {a : List ℕ} (st : Stage r
       met_fewer (λ l z. ⊎_elim (λ y. inl (renamed z y)) (λ y. inr (record {
         place = z.place;
         named = y;
-        inside = z.inside;
-        little = u.large z.place z.inside ∙ z.little;
-        label = u.same 1 z.place (omega arith) z.inside ∙ z.label;
-      })) (f z.place z.inside z.named))
+        bound = z.bound;
+        little = u.large z.place z.bound ∙ z.little;
+        label = u.same 1 z.place (omega arith) z.bound ∙ z.label;
+      })) (f z.place z.bound z.named))
       (met_trans u v)
 
 -- ---- the cell that a step finds
@@ -381,7 +381,7 @@ module _ {rule : Rule} {grid : Grid} {k end : ℕ} {a : List ℕ} (st : Stage ru
   pub met_found : {at r : ℕ} {b : List ℕ} → Small (area_of grid) a (λ q. o ≡ Some q) at → Noted rule (area_of grid) at end a b r → Met rule grid k (Small (area_of grid) a (λ q. o ≡ Some q)) a b end r
   met_found s u =
       met_fewer (λ l z. inr (let e : z.place ≡ s.place = cc in omega (arith, z.label, s.label, ap (plane (area_of grid) 1 a) e)))
-      (met_step st (met_start st) (st.sheet.groups s.place _ s.inside s.label) u)
+      (met_step st (met_start st) (st.sheet.groups s.place _ s.bound s.label) u)
 
 -- ---- what a turn reads
 

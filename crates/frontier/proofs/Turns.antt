@@ -20,10 +20,10 @@ use Rattle.verdicts.proofs.Spans.{Within}
 pub record Landed (n q : ℕ) (work : List ℕ) : Type 0 where
   pub few : n ≤ 264196
   pub room : 8 * n ≤ length work
-  pub inside : q < n
+  pub bound : q < n
 
 pub step_read : {grid : Grid} (step : Move) {work : List ℕ} {q : ℕ} → GroupedSheet grid work → landing grid step ≡ Some q → Landed (area_of grid) q work
-step_read step sheet cell = record { few = sheet-few sheet; room = sheet.room; inside = (step_sound _ _ _ _ _ _ _ cell).inside }
+step_read step sheet cell = record { few = sheet-few sheet; room = sheet.room; bound = (step_sound _ _ _ _ _ _ _ cell).inside }
 
 -- what holds of a place of a group, and of a number of its span before i
 module _ (P : ℕ → Type 0) {n at from to : ℕ} {a : List ℕ} (g : Group n a at) (ends : (from ≡ end_of n a at) × (to ≡ end_of n a (suc at))) {i : ℕ} where

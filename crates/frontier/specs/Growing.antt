@@ -55,7 +55,7 @@ pub record Growth (grid : Grid) (end : ℕ) (work : List ℕ) : Type 0 where
 -- why q becomes large: its group was small, and `near` names a place of it
 pub record Cause (n : ℕ) (work : List ℕ) (near : ℕ → Type 0) (q : ℕ) : Type 0 where
   pub by : ℕ
-  pub inside : by < n
+  pub bound : by < n
   pub named : near by
   pub label : 0 < plane n 1 work by
   pub group : plane n 1 work q ≡ plane n 1 work by
@@ -83,6 +83,6 @@ pub record Decided (grid : Grid) (from mid : ℕ) (work : List ℕ) : Type 0 whe
 
 -- The groups that were logged from `from` on and before `mid` were repainted, and then those of their paint beside them became large and were logged; the log ends at `end`
 pub record Grew (grid : Grid) (from mid : ℕ) (a b : List ℕ) (end : ℕ) : Type 0 where
-  pub between : List ℕ
-  pub repainted : Repainted (area_of grid) (Listed (area_of grid) a from mid) a between
-  pub gained : Gained grid (MatchesLogged grid between from mid) between b mid end
+  pub middle : List ℕ
+  pub repainted : Repainted (area_of grid) (Listed (area_of grid) a from mid) a middle
+  pub gained : Gained grid (MatchesLogged grid middle from mid) middle b mid end

@@ -8,7 +8,7 @@ use Rattle.grid.specs.declared.Grid.{Grid}
 use Rattle.grid.specs.Planes.{plane, end_of}
 use Rattle.verdicts.specs.Steps.{area_of, adjoins}
 use Rattle.verdicts.specs.Groups.{GroupedSheet}
-use Rattle.verdicts.specs.Judging.{state_of, code, Indexed, large_of, Unmarked, Sound}
+use Rattle.verdicts.specs.Judging.{state_of, fate_number, Indexed, large_of, Unmarked, Sound}
 
 -- the places of a group hold v in plane j, and nothing else is changed
 pub record RegionSet (n at j v : ℕ) (a b : List ℕ) : Type 0 where
@@ -25,7 +25,7 @@ pub record Noted (rule : Rule) (n at end : ℕ) (a b : List ℕ) (r : ℕ) : Typ
   pub marks : (q : ℕ) → q < n → (plane n 5 b q ≡ plane n 5 a q) ⊎ ((plane n 5 b q ≡ at + 2) × (plane n 6 b at ≡ 0 → ⊥))
   pub numbers : (l : ℕ) → l < n → (l ≡ at → ⊥) → plane n 6 b l ≡ plane n 6 a l
   pub done : (plane n 6 a at ≡ 0 → ⊥) → plane n 6 b at ≡ plane n 6 a at
-  pub right : plane n 6 a at ≡ 0 → (x : ℕ) → x < n → plane n 1 a x ≡ suc at → plane n 6 b at ≡ code (fate (fates rule (state_of n a)) x)
+  pub right : plane n 6 a at ≡ 0 → (x : ℕ) → x < n → plane n 1 a x ≡ suc at → plane n 6 b at ≡ fate_number (fate (fates rule (state_of n a)) x)
   pub little : (plane n 6 a at ≡ 0) → (plane n 6 b at ≡ 0 → ⊥) → plane n 5 a (plane n 2 a (end_of n a at)) ≡ 0
   pub thawed : (x : ℕ) → x < n → (plane n 1 a x ≡ suc at → ⊥) ⊎ ((plane n 6 a at ≡ 0 → ⊥) ⊎ (plane n 6 b at ≡ 1 → ⊥)) → plane n 4 b x ≡ plane n 4 a x
   pub frozen : plane n 6 a at ≡ 0 → plane n 6 b at ≡ 1 → (x : ℕ) → x < n → plane n 1 a x ≡ suc at → plane n 4 b x ≡ 1
@@ -63,7 +63,7 @@ pub record Numbered (rule : Rule) (s : State) (group num : ℕ → ℕ) : Type 0
 
 -- Since the pass's start some groups were given the number of their fate, which is not 0; `frozenNow` tells which places are frozen by now
 pub record Judging (rule : Rule) (s : State) (group num₀ num : ℕ → ℕ) (frozenNow : ℕ → Bool) : Type 0 where
-  pub each : (x : ℕ) → x < rule.places → 0 < group x → (number_of group num x ≡ number_of group num₀ x) ⊎ ((number_of group num₀ x ≡ 0) × (number_of group num x ≡ code (fate (fates rule s) x)))
+  pub each : (x : ℕ) → x < rule.places → 0 < group x → (number_of group num x ≡ number_of group num₀ x) ⊎ ((number_of group num₀ x ≡ 0) × (number_of group num x ≡ fate_number (fate (fates rule s) x)))
   pub frozen : (x : ℕ) → x < rule.places → 0 < group x → frozenNow x ≡ (marked s.frozen x || (eqb (number_of group num₀ x) 0 && eqb (number_of group num x) 1))
 
 -- plane 4 tells that a place is frozen
@@ -73,7 +73,7 @@ frozen_of n work x = not (eqb (plane n 4 work x) 0)
 -- the group with the label l + 1 got a number of 2 or more since a: it is to be repainted
 pub record Chosen (n : ℕ) (a b : List ℕ) (l : ℕ) : Type 0 where
   pub place : ℕ
-  pub inside : place < n
+  pub bound : place < n
   pub label : plane n 1 a place ≡ suc l
   pub free : plane n 6 a l ≡ 0
   pub number : 2 ≤ plane n 6 b l
@@ -92,14 +92,14 @@ pub record Met (rule : Rule) (grid : Grid) (k : ℕ) (met : ℕ → Type 0) (a b
   pub same : (j q : ℕ) → j < 4 → q < area_of grid → plane (area_of grid) j b q ≡ plane (area_of grid) j a q
   pub large : (q : ℕ) → q < area_of grid → large_of (area_of grid) b q ≡ large_of (area_of grid) a q
   pub judging : Judging rule (state_of (area_of grid) a) (plane (area_of grid) 1 a) (plane (area_of grid) 6 a) (plane (area_of grid) 6 b) (frozen_of (area_of grid) b)
-  pub numbered : (x at : ℕ) → x < area_of grid → plane (area_of grid) 1 a x ≡ suc at → met at → plane (area_of grid) 6 a at ≡ 0 → plane (area_of grid) 6 b at ≡ code (fate (fates rule (state_of (area_of grid) a)) x)
+  pub numbered : (x at : ℕ) → x < area_of grid → plane (area_of grid) 1 a x ≡ suc at → met at → plane (area_of grid) 6 a at ≡ 0 → plane (area_of grid) 6 b at ≡ fate_number (fate (fates rule (state_of (area_of grid) a)) x)
   pub log : Filed (area_of grid) a b from end
 
 -- l + 1 is the label of a place that `at` names and that is not large
 pub record Small (n : ℕ) (work : List ℕ) (at : ℕ → Type 0) (l : ℕ) : Type 0 where
   pub place : ℕ
   pub named : at place
-  pub inside : place < n
+  pub bound : place < n
   pub little : large_of n work place ≡ false
   pub label : plane n 1 work place ≡ suc l
 

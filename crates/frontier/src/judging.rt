@@ -22,12 +22,12 @@ pub fn judge_region(work: &mut [u32], judge: &Judge, at: usize, end: usize) -> u
     match verdict {
         Verdict::Stays => end,
         Verdict::Frozen => {
-            work[6 * n + at] = Verdict::Frozen.code();
+            work[6 * n + at] = Verdict::Frozen.as_number();
             set_region(work, n, at, 4, 1);
             end
         }
         Verdict::Takes(_) => {
-            work[6 * n + at] = verdict.code();
+            work[6 * n + at] = verdict.as_number();
             work[7 * n + end] = at as u32;
             end + 1
         }

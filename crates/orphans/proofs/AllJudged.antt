@@ -21,7 +21,7 @@ use Rattle.verdicts.specs.Judging.{rule_of, state_of, large_of}
 use Rattle.orphans.proofs.LabelledSheets.{label-below}
 use Rattle.frontier.specs.Judging.{Numbered, Stage, Met, Small, AroundLogged}
 use Rattle.frontier.proofs.Decisions.{waits_little, judging_end}
-use Rattle.verdicts.proofs.Verdicts.{code_acts}
+use Rattle.verdicts.proofs.Verdicts.{number_acts}
 use Rattle.frontier.proofs.Progress.{sound_ready, met_fewer}
 use Rattle.orphans.specs.Starting.{AtStart}
 use Rattle.orphans.specs.Passing.{AtFrontier}
@@ -56,7 +56,7 @@ module _ {rule : Rule} {grid : Grid} {k end : ℕ} {a : List ℕ} (st : Stage ru
           plane n 6 b (plane n 1 a x - 1) ≡ 0 → ⊥
       all x y q lx z v ly e t f o =
           let free : plane n 6 a (plane n 1 a x - 1) ≡ 0 = ⊎_elim (λ i. sym i ∙ o) (λ i. i.0) (u.judging.each x lx z) in
-          code_acts (fate (fates rule (state_of n a)) x)
+          number_acts (fate (fates rule (state_of n a)) x)
           (group_acts rule symm (state_of n a) (plane n 1 a) ready.grouped front fronted x y q lx z v ly e t f)
           (sym (u.numbered x (plane n 1 a x - 1) (rw (← is) lx) (omega arith) (covers x y q (rw (← is) lx) z (waits_little rule (state_of n a) x v) (rw (← is) ly) e t f) free) ∙ o)
 
@@ -76,11 +76,11 @@ pub frontier_all_judged : {rule : Rule} {grid : Grid} {k begin end mid : ℕ} {a
 unfolding state_of Symmetric
 frontier_all_judged {rule} {grid} {a = a} u v =
     let n = area_of grid in
-    let st = u.between.stage in
+    let st = u.planes.stage in
     let size = st.ruled.size in
     let symm = st.ruled.symm in
     let g = (sound_ready rule symm n size a st.sound).grouped in
-    all_judged st u.between.told u.fronted v
+    all_judged st u.planes.told u.fronted v
     (λ x y q lx z s ly e t f.
     let big = u.fronted.big q f in
     let lq : q < n = rw (← size) (opaque-below rule.places rule.adj (cells_of n a) g.size q (large-opaque rule symm (cells_of n a) g.size q big)) in
@@ -88,7 +88,7 @@ frontier_all_judged {rule} {grid} {a = a} u v =
     record {
       place = y;
       named = (i.0, i.1, i.2, (q, lq, i.3, sym (st.ruled.ways q y) ∙ symm y q t));
-      inside = ly;
+      bound = ly;
       little = st.sound.flags y ly ∙ sym (group-large rule symm (state_of n a) (plane n 1 a) g x y (rw size lx) (rw size ly) z e) ∙ s;
       label = sym e ∙ omega arith;
     })

@@ -20,8 +20,8 @@ use Rattle.grid.specs.declared.Grid.{Grid}
 use Rattle.grid.specs.Planes.{plane, paint_of, cell_of, cells_of}
 use Rattle.grid.proofs.Planes.{cells-size, cells_at, cells_paint}
 use Rattle.verdicts.specs.Steps.{area_of}
-use Rattle.verdicts.specs.Judging.{state_of, code, Indexed}
-use Rattle.frontier.proofs.Growth.{merges-code}
+use Rattle.verdicts.specs.Judging.{state_of, fate_number, Indexed}
+use Rattle.frontier.proofs.Growth.{merges-number}
 use Rattle.frontier.specs.Judging.{frozen_of, Stage}
 use Rattle.frontier.proofs.Stages.{frozen_is}
 use Rattle.frontier.proofs.Progress.{sound_ready}
@@ -31,17 +31,17 @@ use Rattle.orphans.proofs.Parts.{AllJudged, TargetsTaken}
 -- ---- numbers and verdicts
 
 -- the paint that a verdict leaves
-paint_by : (f : Verdict) (z v : ℕ) → (2 ≤ code f → v ≡ code f - 1) → (code f < 2 → v ≡ z) → cell_of v ≡ painted f (cell_of z)
-unfolding code painted cell_of
+paint_by : (f : Verdict) (z v : ℕ) → (2 ≤ fate_number f → v ≡ fate_number f - 1) → (fate_number f < 2 → v ≡ z) → cell_of v ≡ painted f (cell_of z)
+unfolding fate_number painted cell_of
 paint_by stay z v t s = ap cell_of (s (omega arith))
 paint_by (merge c d) z v t s = let e : v ≡ suc c = (let i = t (omega arith) in omega arith) in rw e
 paint_by (freeze c d) z v t s = ap cell_of (s (omega arith))
 
-freezes-code : (f : Verdict) → freezes f ≡ eqb (code f) 1
-unfolding code freezes
-freezes-code stay = refl
-freezes-code (merge c d) = sym (ne_eqb (c + 2) 1 (λ e. omega arith))
-freezes-code (freeze c d) = refl
+freezes-number : (f : Verdict) → freezes f ≡ eqb (fate_number f) 1
+unfolding fate_number freezes
+freezes-number stay = refl
+freezes-number (merge c d) = sym (ne_eqb (c + 2) 1 (λ e. omega arith))
+freezes-number (freeze c d) = refl
 
 -- by the number before and after
 froze_by : (x y : ℕ) → (eqb x 0 && eqb y 1) ≡ eqb (cond (eqb x 0) y 0) 1
@@ -90,38 +90,38 @@ module _ {rule : Rule} {grid : Grid} {k end mid : ℕ} {a b d : List ℕ} (st : 
       (case (opaque s.cells x) (λ y. let z = (grouped.shown x (in_rule x l)).0 y in absurd (omega arith)) (λ y. y))
 
   -- a place is to be repainted exactly if its group was chosen
-  chosen : (x : ℕ) → x < n → 2 ≤ code (f x) → (0 < plane n 1 a x) × (num a x ≡ 0) × (num b x ≡ code (f x))
-  unfolding code
+  chosen : (x : ℕ) → x < n → 2 ≤ fate_number (f x) → (0 < plane n 1 a x) × (num a x ≡ 0) × (num b x ≡ fate_number (f x))
+  unfolding fate_number
   chosen x l two =
       elim (ℕ_discrete (plane n 1 a x) 0) [
-        | yes e ↦ (let z : code (f x) ≡ 0 = rw (bare x l e) in absurd (omega arith))
+        | yes e ↦ (let z : fate_number (f x) ≡ 0 = rw (bare x l e) in absurd (omega arith))
         | no z ↦ (let y = u.fates x l (omega arith) in
             elim (ℕ_discrete (num a x) 0) [
-              | yes e ↦ (omega arith, e, (let y' : code (f x) ≡ num b x = rw e at y in sym y'))
-              | no o ↦ (let y' : code (f x) ≡ 0 = y ∙ rw (ne_eqb (num a x) 0 o) in absurd (omega arith))
+              | yes e ↦ (omega arith, e, (let y' : fate_number (f x) ≡ num b x = rw e at y in sym y'))
+              | no o ↦ (let y' : fate_number (f x) ≡ 0 = y ∙ rw (ne_eqb (num a x) 0 o) in absurd (omega arith))
             ])
       ]
 
-  pub logged : (x : ℕ) → x < n → 2 ≤ code (f x) → (i : ℕ) × (end ≤ i) × (i < mid) × (plane n 1 a x ≡ suc (plane n 7 b i))
+  pub logged : (x : ℕ) → x < n → 2 ≤ fate_number (f x) → (i : ℕ) × (end ≤ i) × (i < mid) × (plane n 1 a x ≡ suc (plane n 7 b i))
   logged x l two =
       let c = chosen x l two in
       let t = plane n 1 a x - 1 in
       let e : plane n 1 a x ≡ suc t = omega (arith, c.0) in
-      let i = u.judged.log.all t (record { place = x; inside = l; label = e; free = c.1; number = omega (arith, c.2) }) in
+      let i = u.judged.log.all t (record { place = x; bound = l; label = e; free = c.1; number = omega (arith, c.2) }) in
       (i.0, i.1, i.2, e ∙ ap suc (sym i.3))
 
   -- what the log names is repainted
-  named_code : (i x : ℕ) → end ≤ i → i < mid → x < n → plane n 1 a x ≡ suc (plane n 7 b i) → code (f x) ≡ plane n 6 b (plane n 7 b i)
-  named_code i x lo hi l e =
+  named_number : (i x : ℕ) → end ≤ i → i < mid → x < n → plane n 1 a x ≡ suc (plane n 7 b i) → fate_number (f x) ≡ plane n 6 b (plane n 7 b i)
+  named_number i x lo hi l e =
       let c = u.judged.log.named i lo hi in
       let t : plane n 1 a x - 1 ≡ plane n 7 b i = omega arith in
       let z : num a x ≡ 0 = ap (plane n 6 a) t ∙ c.free in
       let y = u.fates x l (omega arith) in
-      let y' : code (f x) ≡ num b x = rw z at y in
+      let y' : fate_number (f x) ≡ num b x = rw z at y in
       y' ∙ ap (plane n 6 b) t
 
-  pub named_two : (i x : ℕ) → end ≤ i → i < mid → x < n → plane n 1 a x ≡ suc (plane n 7 b i) → 2 ≤ code (f x)
-  named_two i x lo hi l e = rw (named_code i x lo hi l e) (u.judged.log.named i lo hi).number
+  pub named_two : (i x : ℕ) → end ≤ i → i < mid → x < n → plane n 1 a x ≡ suc (plane n 7 b i) → 2 ≤ fate_number (f x)
+  named_two i x lo hi l e = rw (named_number i x lo hi l e) (u.judged.log.named i lo hi).number
 
   label_b : (x : ℕ) → x < n → plane n 1 b x ≡ plane n 1 a x
   label_b x l = u.judged.same 1 x (omega arith) l
@@ -130,7 +130,7 @@ module _ {rule : Rule} {grid : Grid} {k end mid : ℕ} {a b d : List ℕ} (st : 
   paint_at_lem x l =
       paint_by (f x) (plane n 0 a x) (plane n 0 d x)
       (λ two. let i = logged x l two in
-      v.takes i.0 x i.1 i.2 l (label_b x l ∙ i.3) ∙ ap (λ (c : ℕ). c - 1) (sym (named_code i.0 x i.1 i.2 l i.3)))
+      v.takes i.0 x i.1 i.2 l (label_b x l ∙ i.3) ∙ ap (λ (c : ℕ). c - 1) (sym (named_number i.0 x i.1 i.2 l i.3)))
       (λ less. v.stays x l (λ i lo hi e. let two = named_two i x lo hi l (sym (label_b x l) ∙ e) in omega arith) ∙ u.judged.same 0 x (omega arith) l)
 
   pub passed_cells : cells_of n d ≡ (pass rule s).cells
@@ -151,7 +151,7 @@ module _ {rule : Rule} {grid : Grid} {k end mid : ℕ} {a b d : List ℕ} (st : 
         | no z ↦ (let some : 0 < plane n 1 a x = omega arith in
             u.judged.judging.frozen x (in_rule x l) some
             ∙ or_swap (marked s.frozen x) (eqb (num a x) 0 && eqb (num b x) 1)
-            ∙ ap (λ (y : Bool). y || marked s.frozen x) (froze_by (num a x) (num b x) ∙ ap (λ (y : ℕ). eqb y 1) (sym (u.fates x l some)) ∙ sym (freezes-code (f x))))
+            ∙ ap (λ (y : Bool). y || marked s.frozen x) (froze_by (num a x) (num b x) ∙ ap (λ (y : ℕ). eqb y 1) (sym (u.fates x l some)) ∙ sym (freezes-number (f x))))
       ]
 
   frozen_size : length (state_of n d).frozen ≡ n
@@ -179,10 +179,10 @@ module _ {rule : Rule} {grid : Grid} {k end mid : ℕ} {a b d : List ℕ} (st : 
       same_test
       (λ y. let l : end < mid = leb_yes {m = suc end} {n = mid} y in
       let c = u.judged.log.named end (omega arith) l in
-      yes_any rule.places (λ p. merges (f p)) c.place (in_rule c.place c.inside)
-      (merges-code (f c.place) ∙ yes_leb {m = 2} {n = code (f c.place)} (named_two end c.place (omega arith) l c.inside c.label)))
+      yes_any rule.places (λ p. merges (f p)) c.place (in_rule c.place c.bound)
+      (merges-number (f c.place) ∙ yes_leb {m = 2} {n = fate_number (f c.place)} (named_two end c.place (omega arith) l c.bound c.label)))
       (λ y. let p = any_yes rule.places (λ p. merges (f p)) y in
-      let i = logged p.0 (of_rule p.0 p.1) (leb_yes {m = 2} {n = code (f p.0)} (sym (merges-code (f p.0)) ∙ p.2)) in
+      let i = logged p.0 (of_rule p.0 p.1) (leb_yes {m = 2} {n = fate_number (f p.0)} (sym (merges-number (f p.0)) ∙ p.2)) in
       yes_leb {m = suc end} {n = mid} (omega (arith, i.1, i.2)))
 
   -- a target is an index of the sheet

@@ -167,7 +167,7 @@ pub labelling : {grid : Grid} {by : Criteria} {a b c : List ℕ} → Sized grid.
     Labelled (adjoins grid) (cells_of (area_of grid) b) (area_of grid) c t.regions t.taken → Filling.PlanesKept (area_of grid) b c → Labelling grid by a c t.regions
 unfolding plane
 labelling {grid} {b = b} {c = c} sized known t thaw lab kept =
-    let paint : (q : ℕ) → q < area_of grid → _ = (λ q l. kept.others 0 q (inl refl) l ∙ thaw.outside (0 * (area_of grid) + q) (inl (omega arith))) in
+    let paint : (q : ℕ) → q < area_of grid → _ = (λ q l. kept.others 0 q (inl refl) l ∙ thaw.others (0 * (area_of grid) + q) (inl (omega arith))) in
     record {
       sheet = record {
         rows = sized.rows;
@@ -182,7 +182,7 @@ labelling {grid} {b = b} {c = c} sized known t thaw lab kept =
       known = known;
       len = kept.size ∙ thaw.len;
       paint = paint;
-      thawed = λ q l. kept.others 4 q (inr (omega arith)) l ∙ thaw.inside q l;
+      thawed = λ q l. kept.others 4 q (inr (omega arith)) l ∙ thaw.zeros q l;
     }
 
 module _ {grid : Grid} {by : Criteria} {a c : List ℕ} {regions : ℕ} (u : Labelling grid by a c regions) where
@@ -258,7 +258,7 @@ module _ {grid : Grid} {by : Criteria} {a c : List ℕ} {regions : ℕ} (u : Lab
   module _ {e : List ℕ} (wiped : Wiped (5 * (area_of grid)) (area_of grid + regions) c e) where
     since_c : Kept (area_of grid) c e
     unfolding plane
-    since_c = record { len = wiped.len; same = λ j q l z. wiped.outside (j * (area_of grid) + q) (inl (low (area_of grid) j q l z)) }
+    since_c = record { len = wiped.len; same = λ j q l z. wiped.others (j * (area_of grid) + q) (inl (low (area_of grid) j q l z)) }
 
     sheet-e : LabelledSheet grid e
     sheet-e = sheet_kept u.sheet since_c
@@ -273,7 +273,7 @@ module _ {grid : Grid} {by : Criteria} {a c : List ℕ} {regions : ℕ} (u : Lab
 
     none_e : (q : ℕ) → q < area_of grid → plane (area_of grid) 5 e q ≡ 0
     unfolding plane
-    none_e q l = wiped.inside q (omega arith)
+    none_e q l = wiped.zeros q (omega arith)
 
     -- f with the large regions told
     module _ {f : List ℕ} (started : Enlarged (area_of grid) (λ l. (l < regions) × (limit ≤ end_of (area_of grid) e (suc l) - end_of (area_of grid) e l)) e f) where
@@ -310,7 +310,7 @@ module _ {grid : Grid} {by : Criteria} {a c : List ℕ} {regions : ℕ} (u : Lab
         known = known_of f paint_f thawed_f;
         flags = λ q l. flags_f q l ∙ ap (λ (y : Bool). cond y 1 0) (sym (large_kept sheet-e since_e limit q l));
         thawed = thawed_f;
-        blank = λ l z. started.kept.same 6 l (λ y. absurd (omega arith)) (start_groups l z).label ∙ ap (λ (i : ℕ). get_or e i 0) (omega arith) ∙ wiped.inside (1 * (area_of grid) + l) (omega arith);
+        blank = λ l z. started.kept.same 6 l (λ y. absurd (omega arith)) (start_groups l z).label ∙ ap (λ (i : ℕ). get_or e i 0) (omega arith) ∙ wiped.zeros (1 * (area_of grid) + l) (omega arith);
       }
 
       pub start-length : length f ≡ length a

@@ -21,7 +21,7 @@ use Rattle.base.proofs.Counting.{table_same}
 module _ (n k : ℕ) (a b : List ℕ) (u : Wiped (4 * n) n a b) where
   same_paint : (p : ℕ) → p < n → plane n 0 b p ≡ plane n 0 a p
   unfolding plane
-  same_paint p l = u.outside (0 * n + p) (inl (omega arith))
+  same_paint p l = u.others (0 * n + p) (inl (omega arith))
 
   same-cells : cells_of n b ≡ cells_of n a
   unfolding cells_of
@@ -29,7 +29,7 @@ module _ (n k : ℕ) (a b : List ℕ) (u : Wiped (4 * n) n a b) where
 
   pub thawed : (rule : Rule) → rule.places ≡ n → state_of n b ≡ fresh rule (cells_of n a)
   unfolding state_of fresh plane
-  thawed rule e = rw (same-cells, e, table_same n (λ p. not (eqb (plane n 4 b p) 0)) (λ p. false) false (λ p l. rw (u.inside p l)))
+  thawed rule e = rw (same-cells, e, table_same n (λ p. not (eqb (plane n 4 b p) 0)) (λ p. false) false (λ p l. rw (u.zeros p l)))
 
   pub thawed_known : Indexed n k a → Indexed n k b
   thawed_known i = record { few = i.few; below = λ q l. rw (same_paint q l) (i.below q l) }

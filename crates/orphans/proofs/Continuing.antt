@@ -30,7 +30,7 @@ pub record LaterPasses (rule : Rule) (grid : Grid) (k max begin end : ℕ) (a b 
 
 module _ (rule : Rule) (grid : Grid) (k max : ℕ) (a : List ℕ) where
   pub later_start : {begin end : ℕ} → AtFrontier rule grid k begin end a → LaterPasses rule grid k max begin end a a 0
-  later_start p = record { going = going_start rule (area_of grid) k max a p.between.stage.known; at_frontier = p }
+  later_start p = record { going = going_start rule (area_of grid) k max a p.planes.stage.known; at_frontier = p }
 
   module _ {begin end made : ℕ} {b : List ℕ} (u : LaterPasses rule grid k max begin end a b made) where
     -- one more

@@ -17,7 +17,7 @@ use Rattle.rules.proofs.Groups.{Ready, ready_next}
 use Rattle.grid.specs.declared.Grid.{Grid}
 use Rattle.grid.specs.Planes.{plane, cells_of}
 use Rattle.verdicts.specs.Steps.{area_of}
-use Rattle.verdicts.specs.Judging.{state_of, code, Indexed, large_of, Sound}
+use Rattle.verdicts.specs.Judging.{state_of, fate_number, Indexed, large_of, Sound}
 use Rattle.grid.proofs.Planes.{index_is}
 use Rattle.frontier.specs.Judging.{Numbered, Stage}
 use Rattle.verdicts.specs.Groups.{GroupedSheet}
@@ -29,17 +29,17 @@ use Rattle.orphans.proofs.Parts.{AllJudged, TargetsTaken, GrownTo}
 use Rattle.orphans.proofs.Applying.{passed_cells, passed_frozen, passed_state, passed_known}
 
 -- a verdict with a number is one or the other
-code_some : (f : Verdict) → (code f ≡ 0 → ⊥) → (merges f ≡ true) ⊎ (freezes f ≡ true)
-unfolding code merges freezes
-code_some stay z = absurd (z refl)
-code_some (merge c d) z = inl refl
-code_some (freeze c d) z = inr refl
+number_some : (f : Verdict) → (fate_number f ≡ 0 → ⊥) → (merges f ≡ true) ⊎ (freezes f ≡ true)
+unfolding fate_number merges freezes
+number_some stay z = absurd (z refl)
+number_some (merge c d) z = inl refl
+number_some (freeze c d) z = inr refl
 
-code_none : (f : Verdict) → code f ≡ 0 → freezes f ≡ false
-unfolding code freezes
-code_none stay e = refl
-code_none (merge c d) e = refl
-code_none (freeze c d) e = absurd (omega arith)
+number_none : (f : Verdict) → fate_number f ≡ 0 → freezes f ≡ false
+unfolding fate_number freezes
+number_none stay e = refl
+number_none (merge c d) e = refl
+number_none (freeze c d) e = absurd (omega arith)
 
 module _ {rule : Rule} {grid : Grid} {k end mid last : ℕ} {a b d : List ℕ} (rest : BetweenPasses rule grid k end a)
     (u : AllJudged rule grid k end mid a b) (v : TargetsTaken (area_of grid) end mid b d) (g : GrownTo rule (area_of grid) end last a b d) where
@@ -107,10 +107,10 @@ module _ {rule : Rule} {grid : Grid} {k end mid last : ℕ} {a b d : List ℕ} (
   told_thawed : (x : ℕ) → x < n → 0 < plane n 1 a x → num b x ≡ 0 → marked s'.frozen x ≡ false
   told_thawed x l z e =
       let was : num a x ≡ 0 = ⊎_elim (λ i. sym i ∙ e) (λ i. i.0) (u.judged.judging.each x (in_rule x l) z) in
-      let c : code (f x) ≡ 0 = u.fates x l z ∙ rw (was, e) in
+      let c : fate_number (f x) ≡ 0 = u.fates x l z ∙ rw (was, e) in
       frozen_at rule symm s ready.grouped.size x (in_rule x l)
       ∙ ap (λ (y : Verdict). freezes y || marked s.frozen x) (sym (fate-at rule symm s ready.grouped.size x (in_rule x l)))
-      ∙ rw (code_none (f x) c) (told.thawed x (in_rule x l) z was)
+      ∙ rw (number_none (f x) c) (told.thawed x (in_rule x l) z was)
 
   froze : (x : ℕ) → x < n → (freezes (f x) ≡ true) ⊎ (marked s.frozen x ≡ true) → marked s'.frozen x ≡ true
   froze x l y =
@@ -122,8 +122,8 @@ module _ {rule : Rule} {grid : Grid} {k end mid last : ℕ} {a b d : List ℕ} (
   unfolding repaints
   told-done x l z e =
       elim (ℕ_discrete (num a x) 0) [
-        | yes was ↦ (let c : code (f x) ≡ num b x = u.fates x l z ∙ rw was in
-            ⊎_elim (λ y. inr (repainted_large rule symm s ready.grouped.size x y)) (λ y. inl (froze x l (inl y))) (code_some (f x) (λ o. e (sym c ∙ o))))
+        | yes was ↦ (let c : fate_number (f x) ≡ num b x = u.fates x l z ∙ rw was in
+            ⊎_elim (λ y. inr (repainted_large rule symm s ready.grouped.size x y)) (λ y. inl (froze x l (inl y))) (number_some (f x) (λ o. e (sym c ∙ o))))
         | no was ↦ ⊎_elim (λ y. inl (froze x l (inr y))) (λ y. inr (large_stays rule symm s ready.grouped.size x y)) (told.done x (in_rule x l) z was)
       ]
 
@@ -196,7 +196,7 @@ module _ {rule : Rule} {grid : Grid} {k end mid last : ℕ} {a b d : List ℕ} (
   -- the next pass goes by what grew
   pub at_frontier : AtFrontier rule grid k end last d
   at_frontier = record {
-    between = record { stage = stage'; told = told'; taken = g.taken };
+    planes = record { stage = stage'; told = told'; taken = g.taken };
     front = grew;
     fronted = rw state_is ready'.fronted;
     listed = λ q l e. let y = left (large_of n d q && not (large_of n a q)) (ltb q rule.places) e in

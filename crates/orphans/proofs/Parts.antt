@@ -11,14 +11,14 @@ use Rattle.rules.proofs.Groups.{Grown}
 use Rattle.grid.specs.declared.Grid.{Grid}
 use Rattle.grid.specs.Planes.{plane}
 use Rattle.verdicts.specs.Steps.{area_of}
-use Rattle.verdicts.specs.Judging.{state_of, code, large_of}
+use Rattle.verdicts.specs.Judging.{state_of, fate_number, large_of}
 use Rattle.frontier.specs.Judging.{idle, Met}
 use Rattle.frontier.specs.Growing.{Logged}
 
 -- A pass from a has judged, and left b: the new numbers are those of all fates
 pub record AllJudged (rule : Rule) (grid : Grid) (k end mid : ℕ) (a b : List ℕ) : Type 0 where
   pub judged : Met rule grid k (λ l. ⊥) a b end mid
-  pub fates : (x : ℕ) → x < area_of grid → 0 < plane (area_of grid) 1 a x → code (fate (fates rule (state_of (area_of grid) a)) x) ≡ cond (eqb (plane (area_of grid) 6 a (plane (area_of grid) 1 a x - 1)) 0) (plane (area_of grid) 6 b (plane (area_of grid) 1 a x - 1)) 0
+  pub fates : (x : ℕ) → x < area_of grid → 0 < plane (area_of grid) 1 a x → fate_number (fate (fates rule (state_of (area_of grid) a)) x) ≡ cond (eqb (plane (area_of grid) 6 a (plane (area_of grid) 1 a x - 1)) 0) (plane (area_of grid) 6 b (plane (area_of grid) 1 a x - 1)) 0
 
 -- the groups of the log from `end` on and before `mid` have taken their targets, and what is frozen stays so
 pub record TargetsTaken (n end mid : ℕ) (b d : List ℕ) : Type 0 where

@@ -10,7 +10,7 @@ use Rattle.rules.specs.Pass.{Rule, fates, fate}
 use Rattle.grid.specs.declared.Grid.{Grid}
 use Rattle.grid.specs.Planes.{plane}
 use Rattle.verdicts.specs.Steps.{area_of}
-use Rattle.verdicts.specs.Judging.{state_of, code}
+use Rattle.verdicts.specs.Judging.{state_of, fate_number}
 use Rattle.frontier.specs.Growing.{Decided, Grew}
 use Rattle.frontier.proofs.Gains.{gained_paint}
 use Rattle.frontier.proofs.Outcome.{met_decided, grown_flags, grown_log, kept_planes, grown_unmarked}
@@ -22,7 +22,7 @@ module _ {rule : Rule} {grid : Grid} {k end mid : ℕ} {a b : List ℕ} (rest : 
   abbrev n : ℕ
   n = area_of grid
 
-  ends : (x : ℕ) → x < rule.places → 0 < plane n 1 a x → code (fate (fates rule (state_of n a)) x) ≡ cond (eqb (plane n 6 a (plane n 1 a x - 1)) 0) (plane n 6 b (plane n 1 a x - 1)) 0
+  ends : (x : ℕ) → x < rule.places → 0 < plane n 1 a x → fate_number (fate (fates rule (state_of n a)) x) ≡ cond (eqb (plane n 6 a (plane n 1 a x - 1)) 0) (plane n 6 b (plane n 1 a x - 1)) 0
   ends x l z = u.fates x (rw (← rest.stage.ruled.size) l) z
 
   -- what `grow` asks

@@ -32,7 +32,7 @@ use Rattle.grid.specs.Planes.{plane, paint_of, cells_of}
 use Rattle.grid.specs.Tiles.{repaint}
 use Rattle.grid.proofs.Planes.{Painted, cells_paint, painted-alike}
 use Rattle.verdicts.specs.declared.Criteria.{Criteria}
-use Rattle.verdicts.specs.Choice.{entry_distance}
+use Rattle.verdicts.specs.Targets.{entry_distance}
 use Rattle.verdicts.specs.Judging.{rule_of, state_of, Indexed}
 use Rattle.orphans.specs.Passing.{CleanedTo}
 use Rattle.orphans.specs.Entry.{Fit}

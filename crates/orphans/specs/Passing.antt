@@ -13,8 +13,8 @@ use Rattle.frontier.specs.Judging.{Numbered, Stage}
 -- the numbers from `start` on, `many` of them, are 0
 pub record Wiped (start many : ℕ) (a b : List ℕ) : Type 0 where
   pub len : length b ≡ length a
-  pub inside : (i : ℕ) → i < many → get_or b (start + i) 0 ≡ 0
-  pub outside : (i : ℕ) → (i < start) ⊎ (start + many ≤ i) → get_or b i 0 ≡ get_or a i 0
+  pub zeros : (i : ℕ) → i < many → get_or b (start + i) 0 ≡ 0
+  pub others : (i : ℕ) → (i < start) ⊎ (start + many ≤ i) → get_or b i 0 ≡ get_or a i 0
 
 -- a pass is made: the state is the rules' pass of the one before, told is whether a cell was repainted, and indices stay below k
 pub record PassDone (rule : Rule) (n k : ℕ) (a b : List ℕ) (moved : Bool) : Type 0 where
@@ -31,7 +31,7 @@ pub record BetweenPasses (rule : Rule) (grid : Grid) (k end : ℕ) (work : List 
 
 -- A pass may begin, by a frontier that the log names from `begin` on and before `end`
 pub record AtFrontier (rule : Rule) (grid : Grid) (k begin end : ℕ) (work : List ℕ) : Type 0 where
-  pub between : BetweenPasses rule grid k end work
+  pub planes : BetweenPasses rule grid k end work
   pub front : ℕ → Bool
   pub fronted : Fronted rule (state_of (area_of grid) work) front
   pub listed : (q : ℕ) → q < area_of grid → front q ≡ true → (i : ℕ) × (begin ≤ i) × (i < end) × (plane (area_of grid) 1 work q ≡ suc (plane (area_of grid) 7 work i))

@@ -23,28 +23,28 @@ use Rattle.verdicts.specs.Polling.{Beside}
 use Rattle.verdicts.specs.Judging.{Indexed}
 use Rattle.verdicts.specs.declared.agreeing.Agreement.{Agreement}
 use Rattle.verdicts.specs.declared.agreeing.Agreement.TheVariants.{Silent, One, Several}
-use Rattle.verdicts.specs.Agreeing.{joined, asked, asked_beside, asked_around, one_paint}
+use Rattle.verdicts.specs.Agreeing.{with_paint, asked_step, asked_beside, asked_around, one_paint}
 
 -- ---- a step
 
 -- it finds no cell
-pub asked-none : (n : ℕ) (work : List ℕ) (t : Agreement) {o : Option ℕ} → o ≡ None → t ≡ asked n work o t
-unfolding asked
+pub asked-none : (n : ℕ) (work : List ℕ) (t : Agreement) {o : Option ℕ} → o ≡ None → t ≡ asked_step n work o t
+unfolding asked_step
 asked-none n work t e = rw e
 
 -- it finds the cell q
 module _ (n q : ℕ) (work : List ℕ) (t : Agreement) {o : Option ℕ} (found : o ≡ Some q) where
-  pub asked-small : get_or work (5 * n + q) 0 ≡ 0 → t ≡ asked n work o t
-  unfolding asked
+  pub asked-small : get_or work (5 * n + q) 0 ≡ 0 → t ≡ asked_step n work o t
+  unfolding asked_step
   asked-small e = rw (found, eq-eqb (plane n 5 work q) 0 (sym (plane_read n 5 q (5 * n + q) work refl) ∙ e))
 
-  pub asked-large : (get_or work (5 * n + q) 0 ≡ 0 → ⊥) → joined t (get_or work q 0) ≡ asked n work o t
-  unfolding asked
-  asked-large z = rw (found, ne_eqb (plane n 5 work q) 0 (λ y. z (plane_read n 5 q (5 * n + q) work refl ∙ y))) (ap (joined t) (plane_read n 0 q q work (omega arith)))
+  pub asked-large : (get_or work (5 * n + q) 0 ≡ 0 → ⊥) → with_paint t (get_or work q 0) ≡ asked_step n work o t
+  unfolding asked_step
+  asked-large z = rw (found, ne_eqb (plane n 5 work q) 0 (λ y. z (plane_read n 5 q (5 * n + q) work refl ∙ y))) (ap (with_paint t) (plane_read n 0 q q work (omega arith)))
 
 -- ---- a turn of the loops
 
-pub beside_more : (grid : Grid) (work : List ℕ) (p k : ℕ) (t : Agreement) → asked (area_of grid) work (hop grid.h grid.w p k) (asked_beside grid work p k t) ≡ asked_beside grid work p (k + 1) t
+pub beside_more : (grid : Grid) (work : List ℕ) (p k : ℕ) (t : Agreement) → asked_step (area_of grid) work (hop grid.h grid.w p k) (asked_beside grid work p k t) ≡ asked_beside grid work p (k + 1) t
 unfolding asked_beside
 beside_more grid work p k t = rw (add-one k)
 
@@ -53,15 +53,15 @@ unfolding asked_around
 around_more grid work from k = rw (add-one k)
 
 -- several stay several
-several-asked : (n : ℕ) (work : List ℕ) (o : Option ℕ) → asked n work o Several ≡ Several
-unfolding asked joined
+several-asked : (n : ℕ) (work : List ℕ) (o : Option ℕ) → asked_step n work o Several ≡ Several
+unfolding asked_step with_paint
 several-asked n work None = refl
 several-asked n work (Some q) = case (eqb (plane n 5 work q) 0) (λ y. rw y) (λ y. rw y)
 
 several-beside : (grid : Grid) (work : List ℕ) (p k : ℕ) → asked_beside grid work p k Several ≡ Several
 unfolding asked_beside
 several-beside grid work p zero = refl
-several-beside grid work p (suc k) = ap (asked (area_of grid) work (hop grid.h grid.w p k)) (several-beside grid work p k) ∙ several-asked (area_of grid) work (hop grid.h grid.w p k)
+several-beside grid work p (suc k) = ap (asked_step (area_of grid) work (hop grid.h grid.w p k)) (several-beside grid work p k) ∙ several-asked (area_of grid) work (hop grid.h grid.w p k)
 
 pub several-further : (grid : Grid) (work : List ℕ) (p k m : ℕ) (t : Agreement) → k ≤ m → Several ≡ asked_beside grid work p k t → Several ≡ asked_beside grid work p m t
 unfolding asked_beside
@@ -69,7 +69,7 @@ several-further grid work p k zero t l e = let z : k ≡ 0 = omega arith in rw z
 several-further grid work p k (suc m) t l e =
     elim (ℕ_discrete k (suc m)) [
       | yes z ↦ rw z at e
-      | no d ↦ sym (several-asked (area_of grid) work (hop grid.h grid.w p m)) ∙ ap (asked (area_of grid) work (hop grid.h grid.w p m)) (several-further grid work p k m t (omega arith) e)
+      | no d ↦ sym (several-asked (area_of grid) work (hop grid.h grid.w p m)) ∙ ap (asked_step (area_of grid) work (hop grid.h grid.w p m)) (several-further grid work p k m t (omega arith) e)
     ]
 
 pub several-around : (grid : Grid) (work : List ℕ) (from k m : ℕ) → k ≤ m → Several ≡ asked_around grid work from k → Several ≡ asked_around grid work from m
@@ -105,8 +105,8 @@ module _ (n : ℕ) (a : List ℕ) where
   agrees-small p e several = several
 
   -- or is large
-  agrees-large : {A : ℕ → Type 0} {t : Agreement} (p : ℕ) → (plane n 5 a p ≡ 0 → ⊥) → Agrees n a A t → Agrees n a (λ q. A q ⊎ (q ≡ p)) (joined t (plane n 0 a p))
-  unfolding joined
+  agrees-large : {A : ℕ → Type 0} {t : Agreement} (p : ℕ) → (plane n 5 a p ≡ 0 → ⊥) → Agrees n a A t → Agrees n a (λ q. A q ⊎ (q ≡ p)) (with_paint t (plane n 0 a p))
+  unfolding with_paint
   agrees-large p l (silent u) = one p (inr refl) l (λ x. ⊎_elim (λ y m. absurd (m (u x y))) (λ y m. rw y))
   agrees-large p l (one {t} q y m u) =
       elim (ℕ_discrete t (plane n 0 a p)) [
@@ -115,8 +115,8 @@ module _ (n : ℕ) (a : List ℕ) where
       ]
   agrees-large p l several = several
 
-  agrees_step : {A : ℕ → Type 0} {t : Agreement} (o : Option ℕ) → Agrees n a A t → Agrees n a (λ q. A q ⊎ (o ≡ Some q)) (asked n a o t)
-  unfolding asked
+  agrees_step : {A : ℕ → Type 0} {t : Agreement} (o : Option ℕ) → Agrees n a A t → Agrees n a (λ q. A q ⊎ (o ≡ Some q)) (asked_step n a o t)
+  unfolding asked_step
   agrees_step None u = agrees_as (λ q. inl) (λ q. ⊎_elim (λ y. y) (λ y. absurd (none_some y))) u
   agrees_step (Some p) u =
       agrees_as (λ q. ⊎_elim inl (λ y. inr (ap (λ (x : ℕ). Some x) (sym y)))) (λ q. ⊎_elim inl (λ y. inr (sym (some_inj y))))
@@ -125,17 +125,17 @@ module _ (n : ℕ) (a : List ℕ) where
 -- the paint that is told is that of every large neighbour of the run from `from` on and before `to`, and there is one
 pub record OnePaint (grid : Grid) (a : List ℕ) (from to v : ℕ) : Type 0 where
   pub place : ℕ
-  pub inside : place < area_of grid
+  pub bound : place < area_of grid
   pub beside : Beside grid a from to place
   pub big : plane (area_of grid) 5 a place ≡ 0 → ⊥
   pub same : (q : ℕ) → q < area_of grid → Beside grid a from to q → (plane (area_of grid) 5 a q ≡ 0 → ⊥) → plane (area_of grid) 0 a q ≡ v
 
 -- it is a paint of some index in use
 pub one_some : {grid : Grid} {a : List ℕ} {from to v : ℕ} → GroupedSheet grid a → OnePaint grid a from to v → 1 ≤ v
-one_some sheet u = rw (← u.same u.place u.inside u.beside u.big) (sheet.large u.place u.inside u.big)
+one_some sheet u = rw (← u.same u.place u.bound u.beside u.big) (sheet.large u.place u.bound u.big)
 
 pub one_most : {grid : Grid} {a : List ℕ} {k from to v : ℕ} → Indexed (area_of grid) k a → OnePaint grid a from to v → v ≤ k
-one_most known u = rw (← u.same u.place u.inside u.beside u.big) (known.below u.place u.inside)
+one_most known u = rw (← u.same u.place u.bound u.beside u.big) (known.below u.place u.bound)
 
 module _ (grid : Grid) (a : List ℕ) (sheet : GroupedSheet grid a) where
   abbrev n : ℕ
@@ -178,7 +178,7 @@ module _ (grid : Grid) (a : List ℕ) (sheet : GroupedSheet grid a) where
       let f : v ≡ t = cc in
       record {
         place = q;
-        inside = hop_in h w (plane n 2 a (from + p.0)) p.2 q p.4;
+        bound = hop_in h w (plane n 2 a (from + p.0)) p.2 q p.4;
         beside = (from + p.0, omega arith, omega (arith, p.1), neighbours-sound grid.near h w (plane n 2 a (from + p.0)) p.2 q p.3 p.4);
         big = big;
         same = λ x l b y. let s = neighbours_complete grid.near h w (plane n 2 a b.0) x l b.3 in

@@ -23,8 +23,8 @@ use Rattle.rules.specs.Palette.{first_least}
 use Rattle.rules.specs.Regions.{at, index}
 use Rattle.rules.specs.Pass.{Rule, marked, votes, most, frequent, judged}
 use Rattle.verdicts.specs.declared.target.Verdict.TheVariants.{Stays}
-use Rattle.verdicts.specs.Choice.{peak, candidate, nearest, verdict_on, number, decision, choice}
-use Rattle.verdicts.specs.Judging.{code}
+use Rattle.verdicts.specs.Targets.{peak, candidate, nearest, verdict_on, as_number, decision, by_votes}
+use Rattle.verdicts.specs.Judging.{fate_number}
 
 -- ---- the loops
 
@@ -69,13 +69,13 @@ module _ (far : ℕ → Float) (counts : List ℕ) (m : ℕ) where
       (λ z. le_step (nearest-below k b (rw z at e)))
 
 module _ (far : ℕ → Float) (counts : List ℕ) (k m : ℕ) (reach : Float) (e : m ≡ peak counts k) where
-  pub choice_none : m ≡ 0 → Stays ≡ choice far counts k reach
-  unfolding choice
-  choice_none z = rw (eq-eqb (peak counts k) 0 (sym e ∙ z))
+  pub by_votes_none : m ≡ 0 → Stays ≡ by_votes far counts k reach
+  unfolding by_votes
+  by_votes_none z = rw (eq-eqb (peak counts k) 0 (sym e ∙ z))
 
-  pub choice_some : (m ≡ 0 → ⊥) → (t : Option Least) → t ≡ nearest far counts m k → decision t reach ≡ choice far counts k reach
-  unfolding choice
-  choice_some z t h =
+  pub by_votes_some : (m ≡ 0 → ⊥) → (t : Option Least) → t ≡ nearest far counts m k → decision t reach ≡ by_votes far counts k reach
+  unfolding by_votes
+  by_votes_some z t h =
       rw (ne_eqb (peak counts k) 0 (λ y. z (e ∙ y)))
       (ap (λ (x : Option Least). decision x reach) h ∙ ap (λ (x : ℕ). decision (nearest far counts x k) reach) e)
 
@@ -174,24 +174,24 @@ module _ (rule : Rule) (cells : List ℤ) (voters : List Bool) (own : ℕ) (coun
   none_target z zero = refl
   none_target z (suc j) = rw (none_frequent z j) (none_target z j)
 
-  decision-is : (o : Option ℕ) → number (decision (as_target far o) rule.reach) ≡ code (judged rule own o)
-  unfolding number decision verdict_on candidate as_target code judged
+  decision-is : (o : Option ℕ) → as_number (decision (as_target far o) rule.reach) ≡ fate_number (judged rule own o)
+  unfolding as_number decision verdict_on candidate as_target fate_number judged
   decision-is None = refl
   decision-is (Some c) = case (lt (far c) rule.reach) (λ y. rw y) (λ z. rw z)
 
-  still : (o : Option ℕ) → o ≡ None → number Stays ≡ code (judged rule own o)
-  unfolding number code judged
+  still : (o : Option ℕ) → o ≡ None → as_number Stays ≡ fate_number (judged rule own o)
+  unfolding as_number fate_number judged
   still o e = rw e
 
-  pub choice-is : number (choice far counts k rule.reach) ≡ code (judged rule own (below k))
-  choice-is =
+  pub by_votes-is : as_number (by_votes far counts k rule.reach) ≡ fate_number (judged rule own (below k))
+  by_votes-is =
       case (eqb (most rule cells voters) 0)
-      (λ y. ap number (sym (choice_none far counts k (peak counts k) rule.reach refl (peak-most ∙ eqb_yes y)))
+      (λ y. ap as_number (sym (by_votes_none far counts k (peak counts k) rule.reach refl (peak-most ∙ eqb_yes y)))
       ∙ still (below k) (none_target (eqb_yes y) k))
       (λ y. let z : most rule cells voters ≡ 0 → ⊥ = (λ e. clash (yes_eqb {m = most rule cells voters} {n = 0} e) y) in
-      ap number (sym (choice_some far counts k (peak counts k) rule.reach refl (λ e. z (sym peak-most ∙ e)) (nearest far counts (peak counts k) k) refl))
-      ∙ ap (λ (x : ℕ). number (decision (nearest far counts x k) rule.reach)) peak-most
-      ∙ ap (λ (t : Option Least). number (decision t rule.reach)) (nearest-target z k (omega arith))
+      ap as_number (sym (by_votes_some far counts k (peak counts k) rule.reach refl (λ e. z (sym peak-most ∙ e)) (nearest far counts (peak counts k) k) refl))
+      ∙ ap (λ (x : ℕ). as_number (decision (nearest far counts x k) rule.reach)) peak-most
+      ∙ ap (λ (t : Option Least). as_number (decision t rule.reach)) (nearest-target z k (omega arith))
       ∙ decision-is (below k))
 
 -- ---- all votes are for one index
@@ -245,6 +245,6 @@ module _ (rule : Rule) (cells : List ℤ) (voters : List Bool) (own c q : ℕ) (
       ]
 
 -- a target as the number that plane 6 holds
-pub decision_one : (rule : Rule) (own c : ℕ) → number (decision (Some (candidate c (rule.dist own c))) rule.reach) ≡ code (judged rule own (Some c))
-unfolding number decision verdict_on candidate code judged
+pub decision_one : (rule : Rule) (own c : ℕ) → as_number (decision (Some (candidate c (rule.dist own c))) rule.reach) ≡ fate_number (judged rule own (Some c))
+unfolding as_number decision verdict_on candidate fate_number judged
 decision_one rule own c = case (lt (rule.dist own c) rule.reach) (λ y. rw y) (λ z. rw z)

@@ -14,13 +14,13 @@ use Rattle.grid.proofs.Places.{neighbours_complete, step_few, hop-eight}
 use Rattle.verdicts.specs.Steps.{area_of, adjoins}
 
 -- neighbours are at most a row and a column apart
-record Apart (w p q : ℕ) : Type 0 where
+record OneApart (w p q : ℕ) : Type 0 where
   pub up : p / w ≤ q / w + 1
   pub down : q / w ≤ p / w + 1
   pub left : p % w ≤ q % w + 1
   pub right : q % w ≤ p % w + 1
 
-eight_apart : (w p q : ℕ) → eight w p q ≡ true → Apart w p q
+eight_apart : (w p q : ℕ) → eight w p q ≡ true → OneApart w p q
 unfolding eight close
 eight_apart w p q e =
     let r = leb (p / w) (q / w + 1) in
@@ -41,7 +41,7 @@ data Around (w p q : ℕ) : Type 0 where
 next_row : (w a b : ℕ) → a ≡ b + 1 → a * w ≡ b * w + w
 next_row w a b e = rw (e, add-one b) (omega arith)
 
-apart_around : (w p q : ℕ) → Apart w p q → Around w p q
+apart_around : (w p q : ℕ) → OneApart w p q → Around w p q
 apart_around w p q a =
     let ep = div-add-mod' p w in
     let eq = div-add-mod' q w in

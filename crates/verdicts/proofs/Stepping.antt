@@ -38,6 +38,6 @@ walk_turn {grid} {p = p} {s = s} inside edge turn =
     let cols = single_is o.1 in
     record {
       few = few;
-      one = record { place = inside; rows = rw rows o.0; cols = rw cols o.1; within = off_border grid.h grid.w p inside edge };
+      one = record { place = inside; rows = rw rows o.0; cols = rw cols o.1; inner = off_border grid.h grid.w p inside edge };
       lands = ap₂ (step_to grid.h grid.w (p / grid.w) (p % grid.w)) rows cols;
     }

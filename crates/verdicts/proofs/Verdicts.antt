@@ -30,10 +30,10 @@ use Rattle.grid.proofs.Planes.{plane_read, cells-size, index_is}
 use Rattle.verdicts.specs.declared.Criteria.{Criteria}
 use Rattle.verdicts.specs.declared.large.Span.{Span}
 use Rattle.verdicts.specs.Steps.{area_of, adjoins}
-use Rattle.verdicts.specs.Choice.{entry_distance, candidate, number, decision, choice}
+use Rattle.verdicts.specs.Targets.{entry_distance, candidate, as_number, decision, by_votes}
 use Rattle.verdicts.specs.Polling.{ballot, Polled, Beside}
-use Rattle.verdicts.specs.Judging.{rule_of, state_of, code, Indexed, large_of, Sound, Judged}
-use Rattle.verdicts.proofs.Choosing.{peak_none, choice_none, choice-is, one_target, decision_one}
+use Rattle.verdicts.specs.Judging.{rule_of, state_of, fate_number, Indexed, large_of, Sound, Judged}
+use Rattle.verdicts.proofs.Choosing.{peak_none, by_votes_none, by_votes-is, one_target, decision_one}
 use Rattle.verdicts.proofs.Agrees.{OnePaint}
 use Rattle.verdicts.specs.Groups.{Group, GroupedSheet}
 use Rattle.verdicts.proofs.Votes.{kept_none, large_then, large_was, tally_new, polled_still}
@@ -49,11 +49,11 @@ unfolding waits
 waits_not_large rule s x l = rw l
 
 -- what is repainted or frozen has a number
-pub code_acts : (w : Verdict) → (merges w ≡ true) ⊎ (freezes w ≡ true) → code w ≡ 0 → ⊥
-unfolding merges freezes code
-code_acts stay h e = ⊎_elim (λ y. clash y refl) (λ y. clash y refl) h
-code_acts (merge c d) h e = omega arith
-code_acts (freeze c d) h e = omega arith
+pub number_acts : (w : Verdict) → (merges w ≡ true) ⊎ (freezes w ≡ true) → fate_number w ≡ 0 → ⊥
+unfolding merges freezes fate_number
+number_acts stay h e = ⊎_elim (λ y. clash y refl) (λ y. clash y refl) h
+number_acts (merge c d) h e = omega arith
+number_acts (freeze c d) h e = omega arith
 
 module _ {grid : Grid} (by : Criteria) (palette : List Float) {a : List ℕ} (sheet : GroupedSheet grid a) (sound : Sound (rule_of grid by palette) (area_of grid) a) where
   abbrev n : ℕ
@@ -115,8 +115,8 @@ module _ {grid : Grid} (by : Criteria) (palette : List Float) {a : List ℕ} (sh
       seen : opaque cells x ≡ true
       seen = (sound.shown x lx).1 some
 
-      stays : waits rule s x ≡ false → 0 ≡ code (fate (fates rule s) x)
-      unfolding rule_of code
+      stays : waits rule s x ≡ false → 0 ≡ fate_number (fate (fates rule s) x)
+      unfolding rule_of fate_number
       stays z = rw (group_rest rule sym_rule s group grouped x lx some z)
 
       lead-large : large rule cells lead ≡ large rule cells x
@@ -124,7 +124,7 @@ module _ {grid : Grid} (by : Criteria) (palette : List Float) {a : List ℕ} (sh
       lead-large = group-large rule sym_rule s group grouped lead x lead_in lx (omega (arith, lead-label)) (lead-label ∙ sym gx)
 
       -- a large group stays
-      pub stays_big : (plane n 5 a lead ≡ 0 → ⊥) → 0 ≡ code (fate (fates rule s) x)
+      pub stays_big : (plane n 5 a lead ≡ 0 → ⊥) → 0 ≡ fate_number (fate (fates rule s) x)
       unfolding large_of state_of
       stays_big z = stays (waits_not_large rule s x (sym lead-large ∙ sym (sound.flags lead lead_in) ∙ rw (ne_eqb (plane n 5 a lead) 0 z)))
 
@@ -196,34 +196,34 @@ module _ {grid : Grid} (by : Criteria) (palette : List Float) {a : List ℕ} (sh
             omega arith
 
         -- its fate is the verdict by these voters, with indices below k for targets
-        fate-is : code (judged rule own (first_least (frequent rule cells voters) (rule.dist own) k)) ≡ code (fate (fates rule s) x)
+        fate-is : fate_number (judged rule own (first_least (frequent rule cells voters) (rule.dist own) k)) ≡ fate_number (fate (fates rule s) x)
         unfolding rule_of state_of group_verdict view
         fate-is =
-            ap (λ (o : Option ℕ). code (judged rule own o)) (target_past rule (view rule s) voters (λ q lq y. voter-opaque q lq (sym (marked-is q lq) ∙ y)) own k top_in)
-            ∙ sym (ap code (group-fates rule sym_rule s group grouped (large rule cells) (fronted_start rule sym_rule s (cells-size n a)) x lx some ∙ rw waiting))
+            ap (λ (o : Option ℕ). fate_number (judged rule own o)) (target_past rule (view rule s) voters (λ q lq y. voter-opaque q lq (sym (marked-is q lq) ∙ y)) own k top_in)
+            ∙ sym (ap fate_number (group-fates rule sym_rule s group grouped (large rule cells) (fronted_start rule sym_rule s (cells-size n a)) x lx some ∙ rw waiting))
 
         -- a voter decides it
-        voter_decides : (q : ℕ) → q < n → votes_at q ≡ true → code (fate (fates rule s) x) ≡ 0 → ⊥
+        voter_decides : (q : ℕ) → q < n → votes_at q ≡ true → fate_number (fate (fates rule s) x) ≡ 0 → ⊥
         unfolding rule_of state_of
         voter_decides q l v z =
             let p = any_yes n (near q) (right (large rule cells q) (any n (near q)) v) in
-            code_acts (fate (fates rule s) x)
+            number_acts (fate (fates rule s) x)
             (group_acts rule sym_rule s group grouped (large rule cells) (fronted_start rule sym_rule s (cells-size n a)) x p.0 q lx some waiting p.1
             (eqb_yes (left (eqb (group x) (group p.0)) (adj p.0 q) p.2)) (right (eqb (group x) (group p.0)) (adj p.0 q) p.2) (left (large rule cells q) (any n (near q)) v)) z
 
         -- all voters have one paint: the verdict is by that index
-        pub agreed_fate : (v : ℕ) → OnePaint grid a (end_of n a t) (end_of n a (suc t)) v → number (decision (Some (candidate (v - 1) (entry_distance palette (plane n 0 a lead - 1) (v - 1)))) reach) ≡ code (fate (fates rule s) x)
+        pub agreed_fate : (v : ℕ) → OnePaint grid a (end_of n a t) (end_of n a (suc t)) v → as_number (decision (Some (candidate (v - 1) (entry_distance palette (plane n 0 a lead - 1) (v - 1)))) reach) ≡ fate_number (fate (fates rule s) x)
         unfolding rule_of
         agreed_fate v u =
             let q = u.place in
-            let l = u.inside in
+            let l = u.bound in
             let y = beside_voter q l u.beside u.big in
             let index-v : (p : ℕ) → p < n → votes_at p ≡ true → index (at cells p) ≡ v - 1 =
             (λ p lp z. let b = voter_beside p lp z in let e = index_is n a p lp (voter-opaque p lp z) in let f = u.same p lp b.0 b.1 in omega arith) in
             let below : v - 1 < k = rw (index-v q l y) at (index_in q l (voter-opaque q l y)) in
-            ap (λ (o : ℕ). number (decision (Some (candidate (v - 1) (entry_distance palette o (v - 1)))) reach)) own_is
+            ap (λ (o : ℕ). as_number (decision (Some (candidate (v - 1) (entry_distance palette o (v - 1)))) reach)) own_is
             ∙ decision_one rule own (v - 1)
-            ∙ sym (ap (λ (o : Option ℕ). code (judged rule own o)) (one_target rule cells voters own (v - 1) q l (marked-is q l ∙ y) (λ p lp z. index-v p lp (sym (marked-is p lp) ∙ z)) k below))
+            ∙ sym (ap (λ (o : Option ℕ). fate_number (judged rule own o)) (one_target rule cells voters own (v - 1) q l (marked-is q l ∙ y) (λ p lp z. index-v p lp (sym (marked-is p lp) ∙ z)) k below))
             ∙ fate-is
 
         -- ---- the poll
@@ -254,16 +254,16 @@ module _ {grid : Grid} (by : Criteria) (palette : List Float) {a : List ℕ} (sh
               let e = index_is n a q l (voter-opaque q l u) in
               both (sym (voter-is q l) ∙ u) (yes_eqb {m = plane n 0 b q} {n = c + 1} (omega arith)))
 
-          -- the verdict is the choice by the counts
-          pub polled_fate : number (choice (entry_distance palette (plane n 0 a lead - 1)) counts k reach) ≡ code (fate (fates rule s) x)
+          -- the verdict is that of the votes counted
+          pub polled_fate : as_number (by_votes (entry_distance palette (plane n 0 a lead - 1)) counts k reach) ≡ fate_number (fate (fates rule s) x)
           unfolding rule_of
           polled_fate =
-              ap (λ (y : ℕ). number (choice (entry_distance palette y) counts k reach)) own_is
-              ∙ choice-is rule cells voters own counts k (λ c lc. tallied c (omega (arith, known.few))) (λ q lq y. index_in q lq (voter-opaque q lq (sym (marked-is q lq) ∙ y)))
+              ap (λ (y : ℕ). as_number (by_votes (entry_distance palette y) counts k reach)) own_is
+              ∙ by_votes-is rule cells voters own counts k (λ c lc. tallied c (omega (arith, known.few))) (λ q lq y. index_in q lq (voter-opaque q lq (sym (marked-is q lq) ∙ y)))
               ∙ fate-is
 
           -- a cell that voted decides it
-          pub vote_decides : (q : ℕ) → q < n → plane n 5 b q ≡ t + 2 → code (fate (fates rule s) x) ≡ 0 → ⊥
+          pub vote_decides : (q : ℕ) → q < n → plane n 5 b q ≡ t + 2 → fate_number (fate (fates rule s) x) ≡ 0 → ⊥
           vote_decides q l e = voter_decides q l (voter-is q l ∙ yes_eqb e)
 
     -- ---- as the code reads it
@@ -306,7 +306,7 @@ module _ {grid : Grid} (by : Criteria) (palette : List Float) {a : List ℕ} (sh
     module _ (span : Span) (ends : (span.from ≡ end_of n a t) × (span.to ≡ end_of n a (suc t))) (free : plane n 6 a t ≡ 0) (little : plane n 5 a lead ≡ 0) (known : Indexed n k a) where
       -- one paint is all that large neighbours have
       pub judged_agreed : {v : ℕ} → OnePaint grid a span.from span.to v →
-          {paint : ℕ} → paint ≡ plane n 0 a lead → {r : ℕ} → r ≡ number (decision (Some (candidate (v - 1) (entry_distance palette (paint - 1) (v - 1)))) reach) → Judged rule n t a a r
+          {paint : ℕ} → paint ≡ plane n 0 a lead → {r : ℕ} → r ≡ as_number (decision (Some (candidate (v - 1) (entry_distance palette (paint - 1) (v - 1)))) reach) → Judged rule n t a a r
       judged_agreed {v} u ep e =
           record {
             kept = kept_none n a;
@@ -320,12 +320,12 @@ module _ {grid : Grid} (by : Criteria) (palette : List Float) {a : List ℕ} (sh
       module _ (fresh : (q : ℕ) → q < n → plane n 5 a q ≡ t + 2 → ⊥) where
         -- they are polled
         pub judged_polled : {b counts : List ℕ} → Polled n (t + 2) (Beside grid a span.from span.to) a b counts →
-            {paint : ℕ} → paint ≡ plane n 0 a lead → {r : ℕ} → r ≡ number (choice (entry_distance palette (paint - 1)) counts k reach) → Judged rule n t a b r
+            {paint : ℕ} → paint ≡ plane n 0 a lead → {r : ℕ} → r ≡ as_number (by_votes (entry_distance palette (paint - 1)) counts k reach) → Judged rule n t a b r
         unfolding large_of
         judged_polled {b} {counts} polled ep {r} e =
             let ne : t + 2 ≡ 0 → ⊥ = (λ x. omega arith) in
             let u : Polled n (t + 2) (Around t) a b counts = rw (ends.0, ends.1) at polled in
-            let right : (x : ℕ) → x < n → group x ≡ suc t → r ≡ code (fate (fates rule s) x) = (λ x l i. (rw ep at e) ∙ polled_fate x l i free little known b counts fresh u) in
+            let right : (x : ℕ) → x < n → group x ≡ suc t → r ≡ fate_number (fate (fates rule s) x) = (λ x l i. (rw ep at e) ∙ polled_fate x l i free little known b counts fresh u) in
             record {
               kept = u.kept;
               large = λ q l. elim (ℕ_discrete (plane n 5 a q) 0) [
@@ -340,9 +340,9 @@ module _ {grid : Grid} (by : Criteria) (palette : List Float) {a : List ℕ} (sh
 
         -- no neighbour is large: the poll would change nothing
         pub judged_silent : ((i : ℕ) → span.from ≤ i → i < span.to → (q : ℕ) → eight grid.w (plane n 2 a i) q ≡ true → plane n 5 a q ≡ 0) → Judged rule n t a a 0
-        unfolding number
+        unfolding as_number
         judged_silent none =
             judged_polled
             (polled_still n (t + 2) (λ x. omega arith) a (replicate 256 0) (tally_new n (t + 2) a fresh)
             (λ q l b large. absurd (large (none b.0 b.1 b.2 q (neighbours_in grid (plane n 2 a b.0) q l b.3)))))
-            refl (ap number (choice_none _ (replicate 256 0) k 0 reach (peak_none k known.few) refl))
+            refl (ap as_number (by_votes_none _ (replicate 256 0) k 0 reach (peak_none k known.few) refl))

@@ -9,20 +9,20 @@ use Rattle.verdicts.specs.declared.agreeing.Agreement.TheVariants.{Silent, One, 
 use Rattle.verdicts.specs.Steps.{area_of}
 
 -- what the cells asked so far have, with one more of the paint v
-unfoldable pub joined : Agreement → ℕ → Agreement
-joined Silent v = One v
-joined (One u) v = cond (eqb u v) (One v) Several
-joined Several v = Several
+unfoldable pub with_paint : Agreement → ℕ → Agreement
+with_paint Silent v = One v
+with_paint (One u) v = cond (eqb u v) (One v) Several
+with_paint Several v = Several
 
 -- the cell that a step finds is asked: it counts if it is large
-unfoldable pub asked : ℕ → List ℕ → Option ℕ → Agreement → Agreement
-asked n work None t = t
-asked n work (Some q) t = cond (eqb (plane n 5 work q) 0) t (joined t (plane n 0 work q))
+unfoldable pub asked_step : ℕ → List ℕ → Option ℕ → Agreement → Agreement
+asked_step n work None t = t
+asked_step n work (Some q) t = cond (eqb (plane n 5 work q) 0) t (with_paint t (plane n 0 work q))
 
 -- the cells that the first k steps from p find are asked
 unfoldable pub asked_beside : Grid → List ℕ → ℕ → ℕ → Agreement → Agreement
 asked_beside grid work p zero t = t
-asked_beside grid work p (suc k) t = asked (area_of grid) work (hop grid.h grid.w p k) (asked_beside grid work p k t)
+asked_beside grid work p (suc k) t = asked_step (area_of grid) work (hop grid.h grid.w p k) (asked_beside grid work p k t)
 
 -- the neighbours of the places from `from` on of the order, `many` of them
 unfoldable pub asked_around : Grid → List ℕ → ℕ → ℕ → Agreement

@@ -7,7 +7,7 @@ use Rattle.grid.specs.declared.Grid.{Grid}
 use Rattle.grid.specs.Planes.{plane, cells_of, end_of}
 use Rattle.verdicts.specs.declared.Criteria.{Criteria}
 use Rattle.verdicts.specs.Steps.{area_of, adjoins}
-use Rattle.verdicts.specs.Choice.{entry_distance}
+use Rattle.verdicts.specs.Targets.{entry_distance}
 use Rattle.verdicts.specs.Polling.{MarksOnly}
 
 -- what a pass goes by on a grid, with these criteria and this palette
@@ -27,10 +27,10 @@ unfoldable pub state_of : ℕ → List ℕ → State
 state_of n work = record { cells = cells_of n work; frozen = table n (λ p. not (eqb (plane n 4 work p) 0)) }
 
 -- a verdict of the rules as the number that plane 6 holds: 0 stay, 1 freeze, c + 2 merge into c
-unfoldable pub code : Verdict → ℕ
-code stay = 0
-code (merge c d) = c + 2
-code (freeze c d) = 1
+unfoldable pub fate_number : Verdict → ℕ
+fate_number stay = 0
+fate_number (merge c d) = c + 2
+fate_number (freeze c d) = 1
 
 -- every index of plane 0 is below k, and k at most 256
 pub record Indexed (n k : ℕ) (work : List ℕ) : Type 0 where
@@ -62,4 +62,4 @@ pub record Judged (rule : Rule) (n at : ℕ) (a b : List ℕ) (r : ℕ) : Type 0
   pub marks : (q : ℕ) → q < n → (plane n 5 b q ≡ plane n 5 a q) ⊎ ((plane n 5 b q ≡ at + 2) × (r ≡ 0 → ⊥))
   pub done : (plane n 6 a at ≡ 0 → ⊥) → r ≡ 0
   pub little : (r ≡ 0 → ⊥) → plane n 5 a (plane n 2 a (end_of n a at)) ≡ 0
-  pub right : plane n 6 a at ≡ 0 → (x : ℕ) → x < n → plane n 1 a x ≡ suc at → r ≡ code (fate (fates rule (state_of n a)) x)
+  pub right : plane n 6 a at ≡ 0 → (x : ℕ) → x < n → plane n 1 a x ≡ suc at → r ≡ fate_number (fate (fates rule (state_of n a)) x)

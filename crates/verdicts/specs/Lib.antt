@@ -1,5 +1,5 @@
 pub mod Steps
-pub mod Choice
+pub mod Targets
 pub mod Groups
 pub mod Polling
 pub mod Agreeing

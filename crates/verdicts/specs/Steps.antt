@@ -22,4 +22,4 @@ pub record OneStep (grid : Grid) (step : Move) : Type 0 where
   pub place : step.p < area_of grid
   pub rows : Single step.dy
   pub cols : Single step.dx
-  pub within : step.border ≡ false → Inner grid.h grid.w step.p
+  pub inner : step.border ≡ false → Inner grid.h grid.w step.p

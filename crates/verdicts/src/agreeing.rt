@@ -3,7 +3,7 @@ ghost use Rattle.std.specs.Prelude.{◌≡◌, ◌-◌, ◌<◌};
 ghost use Rattle.grid.specs.Steps.{steps_of};
 ghost use Rattle.verdicts.specs.Steps.{area_of, landing, OneStep};
 ghost use Rattle.verdicts.specs.Groups.{Stretch, GroupedSheet};
-ghost use Rattle.verdicts.specs.Agreeing.{joined, asked, asked_beside, asked_around, one_paint};
+ghost use Rattle.verdicts.specs.Agreeing.{with_paint, asked_step, asked_beside, asked_around, one_paint};
 
 use crate::large::Span;
 use grid::{Grid, Move, OFFSETS8};
@@ -17,9 +17,9 @@ enum Agreement {
 }
 
 // The same with one more large cell, of this paint.
-#[tactic(auto, unfolding(crate::specs::Agreeing::joined))]
-fn join(so_far: Agreement, paint: u32) -> Agreement
-    ensures { result ≡ joined so_far paint }
+#[tactic(auto, unfolding(crate::specs::Agreeing::with_paint))]
+fn with_paint(so_far: Agreement, paint: u32) -> Agreement
+    ensures { result ≡ with_paint so_far paint }
 {
     match so_far {
         Agreement::Silent => Agreement::One(paint),
@@ -31,11 +31,11 @@ fn join(so_far: Agreement, paint: u32) -> Agreement
 // The cell that a step from p finds is asked.
 fn ask_step(work: &[u32], grid: Grid, step: Move, so_far: Agreement) -> Agreement
     requires { GroupedSheet grid work.now × OneStep grid step }
-    ensures { result ≡ asked (area_of grid) work.now (landing grid step) so_far }
+    ensures { result ≡ asked_step (area_of grid) work.now (landing grid step) so_far }
 {
     let n = grid.h * grid.w;
     match grid.reached(step) {
-        Some(q) if work[5 * n + q] != 0 => join(so_far, work[q]),
+        Some(q) if work[5 * n + q] != 0 => with_paint(so_far, work[q]),
         _ => so_far,
     }
 }

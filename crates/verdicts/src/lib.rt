@@ -10,12 +10,12 @@ mod voting;
 ghost use Rattle.std.specs.Prelude.{◌≡◌, length};
 ghost use Rattle.verdicts.specs.Steps.{area_of};
 ghost use Rattle.verdicts.specs.Groups.{Group, GroupedSheet};
-ghost use Rattle.verdicts.specs.Choice.{number};
+ghost use Rattle.verdicts.specs.Targets.{as_number};
 ghost use Rattle.verdicts.specs.Judging.{rule_of, Indexed, Unmarked, Sound, Judged};
 
 use crate::agreeing::agreed;
 use crate::large::large_around;
-use crate::target::{Verdict, choice, only_choice};
+use crate::target::{Verdict, by_votes, unanimous};
 use crate::voting::{Mark, poll};
 use grid::Grid;
 pub use large::{Span, region_size, region_span};
@@ -43,7 +43,7 @@ impl Judge<'_> {
         requires grouped_sheet { GroupedSheet self.now.grid work.old × Group (area_of self.now.grid) work.old at }
         requires indexed { Indexed (area_of self.now.grid) self.now.by.k work.old }
         requires sound { Sound (rule_of self.now.grid self.now.by self.now.palette.now) (area_of self.now.grid) work.old × Unmarked (area_of self.now.grid) work.old at }
-        ensures { Judged (rule_of self.now.grid self.now.by self.now.palette.now) (area_of self.now.grid) at work.old work.new (number result) }
+        ensures { Judged (rule_of self.now.grid self.now.by self.now.palette.now) (area_of self.now.grid) at work.old work.new (as_number result) }
     {
         let n = self.grid.h * self.grid.w;
         let decided = work[6 * n + at] != 0;
@@ -59,11 +59,11 @@ impl Judge<'_> {
         let own = work[first] as usize - 1;
         if let Some(paint) = agreed(work, self.grid, span) {
             let c = paint as usize - 1;
-            return only_choice(self, own, c);
+            return unanimous(self, own, c);
         }
         let word = at as u32 + 2;
         let mut counts = [0u32; 256];
         poll(work, self.grid, span, Mark { word }, &mut counts);
-        choice(self, &counts, own)
+        by_votes(self, &counts, own)
     }
 }

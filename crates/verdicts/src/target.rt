@@ -1,6 +1,6 @@
 // Which index a region takes, from the votes that each index has.
 ghost use Rattle.std.specs.Prelude.{◌≡◌, ◌≤◌, ◌<◌};
-ghost use Rattle.verdicts.specs.Choice.{entry_distance, candidate, peak, nearest, verdict_on, number, decision, choice};
+ghost use Rattle.verdicts.specs.Targets.{entry_distance, candidate, peak, nearest, verdict_on, as_number, decision, by_votes};
 
 use crate::Judge;
 use color::cielab::{closer_than, distance, entry};
@@ -16,9 +16,9 @@ pub enum Verdict {
 
 impl Verdict {
     // The number that the work area holds for it: 0 it stays, 1 it is frozen, c + 2 it takes the index c.
-    #[tactic(auto, unfolding(crate::specs::Choice::number))]
-    pub fn code(self) -> u32
-        ensures { result ≡ number self }
+    #[tactic(auto, unfolding(crate::specs::Targets::as_number))]
+    pub fn as_number(self) -> u32
+        ensures { result ≡ as_number self }
     {
         match self {
             Verdict::Stays => 0,
@@ -58,7 +58,7 @@ fn nearest(judge: &Judge, counts: &[u32; 256], m: u32, own: usize) -> Option<Lea
 }
 
 // A region takes its target c if that is near enough, else it is frozen.
-#[tactic(auto, unfolding(crate::specs::Choice::verdict_on))]
+#[tactic(auto, unfolding(crate::specs::Targets::verdict_on))]
 fn decide(c: usize, near: bool) -> Verdict
     requires { c < 256 }
     ensures { result ≡ verdict_on c near }
@@ -71,7 +71,7 @@ fn decide(c: usize, near: bool) -> Verdict
 }
 
 // What becomes of a region of the index `own` whose votes are all for c.
-pub fn only_choice(judge: &Judge, own: usize, c: usize) -> Verdict
+pub fn unanimous(judge: &Judge, own: usize, c: usize) -> Verdict
     requires { (own < 256) × (c < 256) }
     ensures { result ≡ decision (Some (candidate c (entry_distance judge.now.palette.now own c))) judge.now.by.max_delta }
 {
@@ -84,9 +84,9 @@ pub fn only_choice(judge: &Judge, own: usize, c: usize) -> Verdict
 }
 
 // What becomes of a region of the index `own` with these votes.
-pub fn choice(judge: &Judge, counts: &[u32; 256], own: usize) -> Verdict
+pub fn by_votes(judge: &Judge, counts: &[u32; 256], own: usize) -> Verdict
     requires { (judge.now.by.k ≤ 256) × (own < judge.now.by.k) }
-    ensures { result ≡ choice (entry_distance judge.now.palette.now own) counts.now judge.now.by.k judge.now.by.max_delta }
+    ensures { result ≡ by_votes (entry_distance judge.now.palette.now own) counts.now judge.now.by.k judge.now.by.max_delta }
 {
     let m = most(counts, judge.by.k);
     if m == 0 {

@@ -30,7 +30,7 @@ returns-then-other c =
     gained_none _ _ _ _ c.requires.0 (λ x l z y. absurd (c.if-other.true (plane_read n 0 q q a (omega arith) ∙ ap (plane n 0 a) (some_inj (sym cell ∙ z.0)) ∙ z.1)))
 
 pub small_region-requires : goal.small_region-requires
-small_region-requires c = let seen = step_read c.args.step c.requires.0.sheet (sym c.in-Some.ensures) in (record { few = seen.few; room = seen.room }, seen.inside)
+small_region-requires c = let seen = step_read c.args.step c.requires.0.sheet (sym c.in-Some.ensures) in (record { few = seen.few; room = seen.room }, seen.bound)
 
 pub returns-in_default-small_region : goal.returns-in_default-small_region
 returns-in_default-small_region c =
@@ -39,22 +39,22 @@ returns-in_default-small_region c =
     let cell = sym c.in-Some.ensures in
     gained_start _ _ _ _ c.requires.0
     (λ x l z y. case (large_of n a x) (λ t. t)
-    (λ t. absurd (c.in_default-small_region.ensures (plane n 1 a x - 1) (record { place = x; named = some_inj (sym z.0 ∙ cell); inside = l; little = t; label = omega arith }))))
+    (λ t. absurd (c.in_default-small_region.ensures (plane n 1 a x - 1) (record { place = x; named = some_inj (sym z.0 ∙ cell); bound = l; little = t; label = omega arith }))))
 
 pub set_region-requires-clause-group : goal.set_region-requires-clause-group
-set_region-requires-clause-group c = let s = c.in-Some-small_region.ensures in c.requires.0.sheet.groups s.place _ s.inside s.label
+set_region-requires-clause-group c = let s = c.in-Some-small_region.ensures in c.requires.0.sheet.groups s.place _ s.bound s.label
 
 pub overflow_cast-work : goal.overflow_cast-work
 overflow_cast-work c =
     let s = c.in-Some-small_region.ensures in
-    let g = c.requires.0.sheet.groups s.place _ s.inside s.label in
+    let g = c.requires.0.sheet.groups s.place _ s.bound s.label in
     let seen = step_read c.args.step c.requires.0.sheet (sym c.in-Some.ensures) in
     omega (arith, g.label)
 
 pub bounds-work-n : goal.bounds-work-n
 bounds-work-n c =
     let s = c.in-Some-small_region.ensures in
-    let room = grown_room c.args.grid c.args.end c.args.work.now c.requires.0 s.place _ s.inside s.label s.little in
+    let room = grown_room c.args.grid c.args.end c.args.work.now c.requires.0 s.place _ s.bound s.label s.little in
     let seen = step_read c.args.step c.requires.0.sheet (sym c.in-Some.ensures) in
     omega (arith, c.set_region.ensures.len)
 
@@ -66,8 +66,8 @@ returns c =
     let s = c.in-Some-small_region.ensures in
     let cell = sym c.in-Some.ensures in
     let seen = step_read c.args.step c.requires.0.sheet cell in
-    let room = grown_room c.args.grid c.args.end a c.requires.0 s.place _ s.inside s.label s.little in
+    let room = grown_room c.args.grid c.args.end a c.requires.0 s.place _ s.bound s.label s.little in
     let paint = ap (plane n 0 a) s.named ∙ sym (plane_read n 0 q q a (omega arith)) ∙ c.if-other.false in
     rw (add-one c.args.end)
-    (gained_one c.args.grid c.args.end a c.requires.0 s.place c.in-Some-small_region.at s.inside s.label s.little c.set_region.new.work c.set_region.ensures
+    (gained_one c.args.grid c.args.end a c.requires.0 s.place c.in-Some-small_region.at s.bound s.label s.little c.set_region.new.work c.set_region.ensures
     (7 * n + c.args.end) (omega arith) (omega (arith, c.set_region.ensures.len)) _ (cell ∙ ap Some (sym s.named), paint) (λ x y. some_inj (sym y.0 ∙ cell) ∙ sym s.named))

@@ -13,4 +13,4 @@ pub absorb_all-requires : goal.absorb_all-requires
 absorb_all-requires c = record { growth = decided_growth c.requires c.repaint_all.ensures; by_index = decided_groups c.requires c.repaint_all.ensures }
 
 pub returns : goal.returns
-returns c = record { between = c.repaint_all.new.work; repainted = c.repaint_all.ensures; gained = c.absorb_all.ensures }
+returns c = record { middle = c.repaint_all.new.work; repainted = c.repaint_all.ensures; gained = c.absorb_all.ensures }

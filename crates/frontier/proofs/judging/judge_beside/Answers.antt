@@ -16,7 +16,7 @@ small_found-requires c =
     (c.loop-s.invariant.met.stage.sheet, walk.one)
 
 pub judge_region-end-requires-clause-group : goal.judge_region-end-requires-clause-group
-judge_region-end-requires-clause-group c = let s = c.in-Some.ensures in c.loop-s.invariant.met.stage.sheet.groups s.place _ s.inside s.label
+judge_region-end-requires-clause-group c = let s = c.in-Some.ensures in c.loop-s.invariant.met.stage.sheet.groups s.place _ s.bound s.label
 
 pub loop-s-preserved : goal.loop-s-preserved
 loop-s-preserved c =

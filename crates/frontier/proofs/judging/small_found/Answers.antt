@@ -18,7 +18,7 @@ returns-in_err-q c =
     rw r (λ at s. none_some (sym c.in_err-q.was ∙ c.reached.ensures ∙ s.named))
 
 pub small_region-requires : goal.small_region-requires
-small_region-requires c = let seen = step_read c.args.step c.requires.0 (sym c.reached.ensures ∙ c.in_ok-q.was) in (record { few = seen.few; room = seen.room }, seen.inside)
+small_region-requires c = let seen = step_read c.args.step c.requires.0 (sym c.reached.ensures ∙ c.in_ok-q.was) in (record { few = seen.few; room = seen.room }, seen.bound)
 
 pub returns : goal.returns
 returns c = by_step _ _ _ _ (sym c.reached.ensures ∙ c.in_ok-q.was) _ c.small_region.ensures

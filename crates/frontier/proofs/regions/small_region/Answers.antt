@@ -11,7 +11,7 @@ use Rattle.frontier.proofs.regions.small_region.Goals as goal
 -- the label less one, where there is a label
 less_one : (n q : ℕ) (work : List ℕ) (r : Option ℕ) → q < n → plane n 5 work q ≡ 0 → SomeIff r (1 ≤ plane n 1 work q) (plane n 1 work q - 1) → MatchOption r ((at : ℕ) → Small n work (λ x. x ≡ q) at → ⊥) (Small n work (λ x. x ≡ q))
 less_one n q work None l z f = λ at s. f (let e = ap (plane n 1 work) s.named in omega (arith, s.label))
-less_one n q work (Some at) l z f = record { place = q; named = refl; inside = l; little = zero_big n work q z; label = omega (arith, f.0, f.1) }
+less_one n q work (Some at) l z f = record { place = q; named = refl; bound = l; little = zero_big n work q z; label = omega (arith, f.0, f.1) }
 
 pub returns-then-large : goal.returns-then-large
 returns-then-large c = λ at s.

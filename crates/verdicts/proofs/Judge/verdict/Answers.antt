@@ -1,7 +1,7 @@
 -- `verdicts::Judge::verdict`, way out by way out. Assumes nothing.
 use Rattle.std.proofs.Common.{◌+◌, ap, ◌∙◌, sym, arith}
 use Rattle.verdicts.specs.Steps.{area_of}
-use Rattle.verdicts.specs.Choice.{number}
+use Rattle.verdicts.specs.Targets.{as_number}
 use Rattle.verdicts.proofs.Keeping.{sheet-planes}
 use Rattle.verdicts.proofs.Spans.{group-stretch}
 use Rattle.verdicts.proofs.Votes.{tally_new}
@@ -11,7 +11,7 @@ use Rattle.verdicts.proofs.Judge.verdict.Goals as goal
 use Rattle.verdicts.proofs.Judge.verdict.Goals.{then-large-via-then-large, then-large-via-else-large+then-not-large_around}
 
 pub returns-then-decided : goal.returns-then-decided
-unfolding number
+unfolding as_number
 returns-then-decided c =
     let r = c.requires in
     judged-done c.args.self.now.by c.args.self.now.palette.now r.grouped_sheet.0 r.sound.0 r.grouped_sheet.1 (λ e. c.if-decided.true (number-read c.args.self.now.by c.args.self.now.palette.now r.grouped_sheet.0 r.sound.0 r.grouped_sheet.1 ∙ e))
@@ -23,7 +23,7 @@ bounds-work-n-3 c =
     omega arith
 
 pub returns-then-large : goal.returns-then-large
-unfolding number
+unfolding as_number
 returns-then-large c =
     let r = c.requires in
     let sheet = r.grouped_sheet.0 in
@@ -64,8 +64,8 @@ overflow_sub-c c =
     let l = one_some sheet (one_paint_lem c.args.self.now.grid c.args.work.now sheet c.region_span-span.result.from c.region_span-span.result.to c.in-Some.paint s.rises c.in-Some.ensures) in
     omega arith
 
-pub only_choice-requires : goal.only_choice-requires
-only_choice-requires c =
+pub unanimous-requires : goal.unanimous-requires
+unanimous-requires c =
     let r = c.requires in
     let sheet = r.grouped_sheet.0 in
     let s = group-stretch r.grouped_sheet.1 c.region_span-span.ensures in
@@ -86,7 +86,7 @@ returns-in-Some c =
     let s = group-stretch group ends in
     judged_agreed c.args.self.now.by c.args.self.now.palette.now sheet sound group c.region_span-span.result ends (sym read ∙ c.if-decided.false) (sym (large-read c.args.self.now.by c.args.self.now.palette.now sheet sound group ends.0) ∙ c.if-large.false) r.indexed
     (one_paint_lem c.args.self.now.grid c.args.work.now sheet c.region_span-span.result.from c.region_span-span.result.to c.in-Some.paint s.rises c.in-Some.ensures)
-    (paint-read c.args.self.now.by c.args.self.now.palette.now sheet sound group ends.0) (ap number c.only_choice.ensures)
+    (paint-read c.args.self.now.by c.args.self.now.palette.now sheet sound group ends.0) (ap as_number c.unanimous.ensures)
 
 pub poll-requires-clause-grouped_sheet : goal.poll-requires-clause-grouped_sheet
 poll-requires-clause-grouped_sheet c = (c.requires.grouped_sheet.0, group-stretch c.requires.grouped_sheet.1 c.region_span-span.ensures)
@@ -97,8 +97,8 @@ poll-requires-clause-tallied c =
     let read = number-read c.args.self.now.by c.args.self.now.palette.now r.grouped_sheet.0 r.sound.0 r.grouped_sheet.1 in
     tally_new (area_of c.args.self.now.grid) (c.args.at + 2) c.args.work.now (r.sound.1 (sym read ∙ c.if-decided.false))
 
-pub choice-requires : goal.choice-requires
-choice-requires c =
+pub by_votes-requires : goal.by_votes-requires
+by_votes-requires c =
     let r = c.requires in
     let sheet = r.grouped_sheet.0 in
     let some = paint_some c.args.self.now.by c.args.self.now.palette.now sheet r.sound.0 r.grouped_sheet.1 c.region_span-span.ensures.0 in
@@ -113,4 +113,4 @@ returns c =
     let group = r.grouped_sheet.1 in
     let ends = c.region_span-span.ensures in
     let free = sym (number-read c.args.self.now.by c.args.self.now.palette.now sheet sound group) ∙ c.if-decided.false in
-    judged_polled c.args.self.now.by c.args.self.now.palette.now sheet sound group c.region_span-span.result ends free (sym (large-read c.args.self.now.by c.args.self.now.palette.now sheet sound group ends.0) ∙ c.if-large.false) r.indexed (r.sound.1 free) c.poll.ensures (paint-read c.args.self.now.by c.args.self.now.palette.now sheet sound group ends.0) (ap number c.choice.ensures)
+    judged_polled c.args.self.now.by c.args.self.now.palette.now sheet sound group c.region_span-span.result ends free (sym (large-read c.args.self.now.by c.args.self.now.palette.now sheet sound group ends.0) ∙ c.if-large.false) r.indexed (r.sound.1 free) c.poll.ensures (paint-read c.args.self.now.by c.args.self.now.palette.now sheet sound group ends.0) (ap as_number c.by_votes.ensures)

@@ -17,7 +17,7 @@ bounds-work-n c = let l : c.in-Some.q < area_of c.args.grid = (step_sound _ _ _ 
 
 pub returns-in-Some : goal.returns-in-Some
 returns-in-Some c =
-    c.join.ensures ∙ asked-large (area_of c.args.grid) c.in-Some.q c.args.work.now c.args.so_far (sym c.in-Some.ensures) c.if-work-n-ne0.true
+    c.with_paint.ensures ∙ asked-large (area_of c.args.grid) c.in-Some.q c.args.work.now c.args.so_far (sym c.in-Some.ensures) c.if-work-n-ne0.true
 
 pub returns-in_default : goal.returns-in_default
 returns-in_default c =

@@ -1,6 +1,6 @@
 -- `verdicts::target::most`: the greatest of the counts so far. Assumes nothing.
 use Rattle.std.proofs.Common.{◌≡◌}
-use Rattle.verdicts.specs.Choice.{peak}
+use Rattle.verdicts.specs.Targets.{peak}
 use Rattle.verdicts.proofs.target.most.Given as goal
 
 abbrev pub invariant-loop-votes : goal.invariant-loop-votes

@@ -4,7 +4,7 @@ use Rattle.std.specs.Prelude.{Float}
 use Rattle.color.specs.Lab.{distance}
 use Rattle.color.specs.declared.least.Least.{Least}
 use Rattle.color.specs.Least.{lowered}
-use Rattle.verdicts.specs.Choice.{entry_distance, candidate}
+use Rattle.verdicts.specs.Targets.{entry_distance, candidate}
 use Rattle.verdicts.proofs.Choosing.{nearest-start, nearest-more, nearest-same, first-counts}
 use Rattle.verdicts.proofs.target.nearest.Goals as goal
 use Rattle.verdicts.proofs.target.nearest.Goals.{then-votes-m, else-votes-m}

@@ -1,6 +1,6 @@
 -- `verdicts::target::nearest`: the nearest so far. Assumes nothing.
 use Rattle.std.proofs.Common.{◌≡◌}
-use Rattle.verdicts.specs.Choice.{entry_distance, nearest}
+use Rattle.verdicts.specs.Targets.{entry_distance, nearest}
 use Rattle.verdicts.proofs.target.nearest.Given as goal
 
 abbrev pub invariant-loop-index : goal.invariant-loop-index

@@ -27,10 +27,10 @@ nearest far counts m (suc c) =
     cond (eqb (get_or counts c 0) m) (Some (lowered (nearest far counts m c) (candidate c (far c)))) (nearest far counts m c)
 
 -- a verdict as the number that the work area holds: 0 it stays, 1 it is frozen, c + 2 it takes the index c
-unfoldable pub number : Verdict → ℕ
-number Stays = 0
-number Frozen = 1
-number (Takes c) = c + 2
+unfoldable pub as_number : Verdict → ℕ
+as_number Stays = 0
+as_number Frozen = 1
+as_number (Takes c) = c + 2
 
 -- a target c gives a region its index, if it is near enough, else the region is frozen
 unfoldable pub verdict_on : ℕ → Bool → Verdict
@@ -42,6 +42,6 @@ decision None reach = Stays
 decision (Some b) reach = verdict_on b.at (lt b.value reach)
 
 -- the same from the votes: with none the region stays
-unfoldable pub choice : (ℕ → Float) → List ℕ → ℕ → Float → Verdict
-choice far counts k reach =
+unfoldable pub by_votes : (ℕ → Float) → List ℕ → ℕ → Float → Verdict
+by_votes far counts k reach =
     cond (eqb (peak counts k) 0) Stays (decision (nearest far counts (peak counts k) k) reach)

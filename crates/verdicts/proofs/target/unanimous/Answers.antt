@@ -1,10 +1,10 @@
--- `verdicts::target::only_choice`. Assumes nothing.
+-- `verdicts::target::unanimous`. Assumes nothing.
 use Rattle.std.proofs.Common.{ap, ap₂, ◌∙◌}
 use Rattle.std.specs.Float.Ieee.{lt}
 use Rattle.color.specs.declared.Lab.{Lab}
 use Rattle.color.specs.Lab.{distance}
-use Rattle.verdicts.specs.Choice.{entry_distance, candidate, verdict_on, decision}
-use Rattle.verdicts.proofs.target.only_choice.Goals as goal
+use Rattle.verdicts.specs.Targets.{entry_distance, candidate, verdict_on, decision}
+use Rattle.verdicts.proofs.target.unanimous.Goals as goal
 
 pub returns : goal.returns
 unfolding entry_distance candidate decision
