@@ -20,7 +20,7 @@ use Rattle.rules.specs.Regions.{at}
 use Rattle.rules.proofs.Reading.{read_at}
 use Rattle.grid.specs.Planes.{plane, paint_of}
 use Rattle.grid.specs.declared.tile.Tile.{Tile}
-use Rattle.grid.specs.Tiles.{whole, spot_of, Lies, paint_at, Paints, repaint, in_tile, place_in, stored_to, stored}
+use Rattle.grid.specs.Tiles.{whole_sheet, spot_of, Lies, tile_paint, PaintsTo, repaint, in_tile, place_in, stored_to, stored}
 use Rattle.grid.proofs.Planes.{plane_read, Painted}
 use Rattle.grid.proofs.Places.{row_in, col_in, row_of, col_of, place_in_lem}
 
@@ -31,7 +31,7 @@ unfolding spot_of
 spot_is t y x l = ap₂ (λ (a b : ℕ). t.start + a * t.stride + b) (row_of t.w y x l) (col_of t.w y x l)
 
 -- a sheet is a tile of itself
-pub spot-whole : (h w p : ℕ) → spot_of (whole h w) p ≡ p
+pub spot-whole : (h w p : ℕ) → spot_of (whole_sheet h w) p ≡ p
 unfolding spot_of
 spot-whole h w p = let e = div-add-mod' p w in omega arith
 
@@ -122,9 +122,9 @@ same_tile f a b = record {
   cols = f.cols;
   planes = omega (arith, f.planes);
   from = f.from;
-  within = f.within;
+  narrow = f.narrow;
   wide = f.wide;
-  inside = λ p l. let k = f.inside p l in omega arith;
+  in_list = λ p l. let k = f.in_list p l in omega arith;
 }
 
 pub next_row : (y w : ℕ) → (y + 1) * w ≡ y * w + w
@@ -144,7 +144,7 @@ module _ {cells : List ℤ} {work : List ℕ} {t : Tile} (f : Lies cells work t)
     on = place_in_lem t.h t.w y x ly lx;
     few = mul-le-mul f.rows f.cols;
     room = f.planes;
-    spot = let l = f.inside (y * t.w + x) (place_in_lem t.h t.w y x ly lx) in omega (arith, spot_is t y x lx);
+    spot = let l = f.in_list (y * t.w + x) (place_in_lem t.h t.w y x ly lx) in omega (arith, spot_is t y x lx);
     small = let b : y ≤ 513 = omega (arith, f.rows) in let a : y * t.stride ≤ 513 * 514 = mul-le-mul b f.wide in omega (arith, f.from, f.cols);
   }
 
@@ -237,18 +237,18 @@ store_next l new work t y x v f ly lx e is =
     let lk : k < t.h * t.w = place_in_lem t.h t.w y x ly lx in
     let size : length new ≡ length l = ap length e ∙ stored-size l work t k in
     let spot : spot_of t k ≡ t.start + y * t.stride + x = spot_is t y x lx in
-    let inside : spot_of t k < length l = (let m = f.inside k lk in omega arith) in
+    let inside : spot_of t k < length l = (let m = f.in_list k lk in omega arith) in
     let old : get_or new (t.start + y * t.stride + x) (pos 0) ≡ at l (spot_of t k) =
-    ap (λ (i : ℕ). get_or new i (pos 0)) (sym spot) ∙ ap (λ (c : List ℤ). get_or c (spot_of t k) (pos 0)) e ∙ store_old l work t f.within k lk inside in
+    ap (λ (i : ℕ). get_or new i (pos 0)) (sym spot) ∙ ap (λ (c : List ℤ). get_or c (spot_of t k) (pos 0)) e ∙ store_old l work t f.narrow k lk inside in
     ap (λ (i : ℕ). set new i v) (sym spot) ∙ ap (λ (c : List ℤ). set c (spot_of t k) v) e
-    ∙ store_more l work t f.within k lk inside (y * t.w + (x + 1)) v (omega arith) (is ∙ ap (repaint (plane (t.h * t.w) 0 work k)) old)
+    ∙ store_more l work t f.narrow k lk inside (y * t.w + (x + 1)) v (omega arith) (is ∙ ap (repaint (plane (t.h * t.w) 0 work k)) old)
 
 -- ---- paints
 
-pub paints_none : (work : List ℕ) → Paints 0 work
+pub paints_none : (work : List ℕ) → PaintsTo 0 work
 paints_none work = record { most = λ p l. absurd (not-suc-le-zero l) }
 
-pub paints_more : {k v : ℕ} {work : List ℕ} → Paints k work → k < length work → v ≤ 2147483648 → Paints (k + 1) (set work k v)
+pub paints_more : {k v : ℕ} {work : List ℕ} → PaintsTo k work → k < length work → v ≤ 2147483648 → PaintsTo (k + 1) (set work k v)
 paints_more {k = k} {v = v} {work = work} m l most = record {
   most = λ p lp.
       elim (ℕ_discrete p k) [
@@ -257,23 +257,23 @@ paints_more {k = k} {v = v} {work = work} m l most = record {
       ];
 }
 
-pub paints_to : {k m : ℕ} {work : List ℕ} → k ≡ m → Paints k work → Paints m work
-paints_to {work = work} e = subst (λ (x : ℕ). Paints x work) e
+pub paints_to : {k m : ℕ} {work : List ℕ} → k ≡ m → PaintsTo k work → PaintsTo m work
+paints_to {work = work} e = subst (λ (x : ℕ). PaintsTo x work) e
 
-pub paints_plane : {n : ℕ} {work : List ℕ} → Paints n work → (p : ℕ) → p < n → plane n 0 work p ≤ 2147483648
+pub paints_plane : {n : ℕ} {work : List ℕ} → PaintsTo n work → (p : ℕ) → p < n → plane n 0 work p ≤ 2147483648
 paints_plane {n = n} {work = work} m p l = omega (arith, plane_read n 0 p p work (omega arith), m.most p l)
 
 -- ---- the whole sheet
 
-pub whole_tile : (cells : List ℤ) (work : List ℕ) (h w : ℕ) → h ≤ 514 → w ≤ 514 → h * w ≤ length cells → 8 * (h * w) ≤ length work → Lies cells work (whole h w)
+pub whole_tile : (cells : List ℤ) (work : List ℕ) (h w : ℕ) → h ≤ 514 → w ≤ 514 → h * w ≤ length cells → 8 * (h * w) ≤ length work → Lies cells work (whole_sheet h w)
 whole_tile cells work h w a b c d = record {
   rows = a;
   cols = b;
   planes = d;
   from = omega arith;
-  within = omega arith;
+  narrow = omega arith;
   wide = b;
-  inside = λ p l. omega (arith, spot-whole h w p);
+  in_list = λ p l. omega (arith, spot-whole h w p);
 }
 
 -- plane 0 after the first n numbers were filled
@@ -282,38 +282,38 @@ unfolding plane
 filled-plane n f l p h = ap (λ (i : ℕ). get_or (filled n f l) i 0) (omega arith) ∙ filled_at n f l 0 p h
 
 -- a loaded sheet is painted
-pub load_whole : (cells : List ℤ) (work : List ℕ) (h w : ℕ) → h * w ≤ length cells → Painted (take (h * w) cells) (h * w) (filled (h * w) (paint_at cells (whole h w)) work)
-unfolding paint_at at
+pub load_whole : (cells : List ℤ) (work : List ℕ) (h w : ℕ) → h * w ≤ length cells → Painted (take (h * w) cells) (h * w) (filled (h * w) (tile_paint cells (whole_sheet h w)) work)
+unfolding tile_paint at
 load_whole cells work h w c = record {
   size = length-take-le (h * w) cells c;
   paint = λ p l.
-      filled-plane (h * w) (paint_at cells (whole h w)) work p l
+      filled-plane (h * w) (tile_paint cells (whole_sheet h w)) work p l
       ∙ ap (λ (i : ℕ). paint_of (at cells i)) (spot-whole h w p) ∙ ap paint_of (sym (get_or-take (h * w) cells p (negsuc 0) l));
 }
 
 -- and a sheet stored whole is repainted from the front
 pub store_whole : (cells : List ℤ) (work : List ℕ) (h w : ℕ) → h * w ≤ length cells →
-    stored cells work (whole h w) ≡ filled (h * w) (λ i. repaint (plane (h * w) 0 work i) (at cells i)) cells
+    stored cells work (whole_sheet h w) ≡ filled (h * w) (λ i. repaint (plane (h * w) 0 work i) (at cells i)) cells
 unfolding stored
 store_whole cells work h w c =
-    filled_is (h * w) (λ i. repaint (plane (h * w) 0 work i) (at cells i)) cells (stored cells work (whole h w)) (pos 0) c (table-length (length cells) value)
+    filled_is (h * w) (λ i. repaint (plane (h * w) 0 work i) (at cells i)) cells (stored cells work (whole_sheet h w)) (pos 0) c (table-length (length cells) value)
     (λ p l. table_at (length cells) value (pos 0) p (omega arith) ∙ in_front p l) (λ p l. past p l (dec_lt p (length cells)))
   where
     value : ℕ → ℤ
-    value i = cond (in_tile (whole h w) i) (repaint (plane (h * w) 0 work (place_in (whole h w) i)) (at cells i)) (at cells i)
+    value i = cond (in_tile (whole_sheet h w) i) (repaint (plane (h * w) 0 work (place_in (whole_sheet h w) i)) (at cells i)) (at cells i)
 
     in_front : (p : ℕ) → p < h * w → value p ≡ repaint (plane (h * w) 0 work p) (at cells p)
     in_front p l =
         let e = spot-whole h w p in
-        let y : in_tile (whole h w) p ≡ true = subst (λ (i : ℕ). in_tile (whole h w) i ≡ true) e (spot_in (whole h w) (omega arith) p l) in
-        let q : place_in (whole h w) p ≡ p = subst (λ (i : ℕ). place_in (whole h w) i ≡ p) e (spot_place (whole h w) (omega arith) p l) in
+        let y : in_tile (whole_sheet h w) p ≡ true = subst (λ (i : ℕ). in_tile (whole_sheet h w) i ≡ true) e (spot_in (whole_sheet h w) (omega arith) p l) in
+        let q : place_in (whole_sheet h w) p ≡ p = subst (λ (i : ℕ). place_in (whole_sheet h w) i ≡ p) e (spot_place (whole_sheet h w) (omega arith) p l) in
         rw (y, q)
 
-    past : (p : ℕ) → h * w ≤ p → Dec (p < length cells) → get_or (stored cells work (whole h w)) p (pos 0) ≡ get_or cells p (pos 0)
+    past : (p : ℕ) → h * w ≤ p → Dec (p < length cells) → get_or (stored cells work (whole_sheet h w)) p (pos 0) ≡ get_or cells p (pos 0)
     past p l (yes k) =
         table_at (length cells) value (pos 0) p k
-        ∙ case (in_tile (whole h w) p)
-        (λ y. let a = tile_place (whole h w) (omega arith) p y in let b = tile_spot (whole h w) (omega arith) p y in absurd (omega (arith, spot-whole h w (place_in (whole h w) p))))
+        ∙ case (in_tile (whole_sheet h w) p)
+        (λ y. let a = tile_place (whole_sheet h w) (omega arith) p y in let b = tile_spot (whole_sheet h w) (omega arith) p y in absurd (omega (arith, spot-whole h w (place_in (whole_sheet h w) p))))
         (λ z. rw z (sym (read_at cells p k)))
     past p l (no k) =
-        get_or-eq_default (stored cells work (whole h w)) (pos 0) (omega (arith, table-length (length cells) value)) ∙ sym (get_or-eq_default cells (pos 0) (omega arith))
+        get_or-eq_default (stored cells work (whole_sheet h w)) (pos 0) (omega (arith, table-length (length cells) value)) ∙ sym (get_or-eq_default cells (pos 0) (omega arith))

@@ -6,8 +6,8 @@ use Rattle.grid.specs.declared.tile.Tile.{Tile}
 use Rattle.grid.specs.Planes.{plane, paint_of}
 
 -- the tile of a whole sheet of h rows of w cells
-abbrev pub whole : ℕ → ℕ → Tile
-whole h w = record { start = 0; stride = w; h = h; w = w }
+abbrev pub whole_sheet : ℕ → ℕ → Tile
+whole_sheet h w = record { start = 0; stride = w; h = h; w = w }
 
 -- where the place p of a tile lies in a sheet with rows of `stride` cells, the tile's first place being at `start`
 unfoldable pub spot_of : Tile → ℕ → ℕ
@@ -19,18 +19,18 @@ pub record Lies (cells : List ℤ) (work : List ℕ) (t : Tile) : Type 0 where
   pub cols : t.w ≤ 514
   pub planes : 8 * (t.h * t.w) ≤ length work
   pub from : t.start ≤ 264196
-  pub within : t.w ≤ t.stride
+  pub narrow : t.w ≤ t.stride
   pub wide : t.stride ≤ 514
-  pub inside : (p : ℕ) → p < t.h * t.w → spot_of t p < length cells
+  pub in_list : (p : ℕ) → p < t.h * t.w → spot_of t p < length cells
 
 -- ---- loading
 
 -- the paint of the tile's place p
-unfoldable pub paint_at : List ℤ → Tile → ℕ → ℕ
-paint_at cells t p = paint_of (at cells (spot_of t p))
+unfoldable pub tile_paint : List ℤ → Tile → ℕ → ℕ
+tile_paint cells t p = paint_of (at cells (spot_of t p))
 
 -- the first k numbers are paints of cells of 32 bits
-pub record Paints (k : ℕ) (work : List ℕ) : Type 0 where
+pub record PaintsTo (k : ℕ) (work : List ℕ) : Type 0 where
   pub most : (p : ℕ) → p < k → get_or work p 0 ≤ 2147483648
 
 -- ---- storing

@@ -2,7 +2,7 @@
 ghost use Rattle.std.specs.Prelude.{◌≡◌, List, ℕ, ◌+◌, ◌*◌, ◌<◌, ◌≤◌, ℤ};
 ghost use Rattle.base.specs.Outputs.{filled};
 ghost use Rattle.grid.specs.Planes.{plane, paint_of};
-ghost use Rattle.grid.specs.Tiles.{whole, Lies, paint_at, Paints, repaint, stored_to, stored};
+ghost use Rattle.grid.specs.Tiles.{whole_sheet, Lies, tile_paint, PaintsTo, repaint, stored_to, stored};
 
 // The cells of a sheet with rows of `stride` cells from the place `start` on: h rows of w of them.
 #[derive(Clone, Copy)]
@@ -40,7 +40,7 @@ fn repainted(paint: u32, old: i32) -> i32
 impl Tile {
     // A whole sheet of h rows of w cells.
     pub fn whole(h: usize, w: usize) -> Self
-        ensures { result ≡ whole h w }
+        ensures { result ≡ whole_sheet h w }
     {
         Tile {
             start: 0,
@@ -54,8 +54,8 @@ impl Tile {
     fn load_row(self, cells: &[i32], work: &mut [u32], y: usize)
         requires lies { Lies cells.now work.old self }
         requires y_lt_h { y < self.h }
-        ensures by_index { (l : List ℕ) → work.old ≡ filled (y * self.w) (paint_at cells.now self) l → work.new ≡ filled ((y + 1) * self.w) (paint_at cells.now self) l }
-        ensures paints { Paints (y * self.w) work.old → Paints ((y + 1) * self.w) work.new }
+        ensures by_index { (l : List ℕ) → work.old ≡ filled (y * self.w) (tile_paint cells.now self) l → work.new ≡ filled ((y + 1) * self.w) (tile_paint cells.now self) l }
+        ensures paints { PaintsTo (y * self.w) work.old → PaintsTo ((y + 1) * self.w) work.new }
     {
         let from = self.start + y * self.stride;
         let to = y * self.w;
@@ -69,8 +69,8 @@ impl Tile {
     // The tile goes to plane 0.
     pub fn load(self, cells: &[i32], work: &mut [u32])
         requires { Lies cells.now work.old self }
-        ensures work_after { work.new ≡ filled (self.h * self.w) (paint_at cells.now self) work.old }
-        ensures paints { Paints (self.h * self.w) work.new }
+        ensures work_after { work.new ≡ filled (self.h * self.w) (tile_paint cells.now self) work.old }
+        ensures paints { PaintsTo (self.h * self.w) work.new }
     {
         for y in 0..self.h {
             self.load_row(cells, work, y);

@@ -71,7 +71,7 @@ module _ (c : OrphansCall) where
             record {
               rows = omega (arith, r.high);
               cols = omega (arith, r.wide);
-              reads = r.held;
+              reads = r.long;
               planes = r.free;
               entries = u.few;
               doubles = u.whole;

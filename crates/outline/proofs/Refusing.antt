@@ -20,7 +20,7 @@ use Rattle.rules.specs.Outline.{asked, touches, pads, canvas, has_ring}
 use Rattle.rules.specs.Rows.{too_large, too_short, sheet_rows, is_auto, no_entry}
 use Rattle.rules.specs.Entries.{lent_rows}
 use Rattle.rules.proofs.Sizes.{needed-least}
-use Rattle.refusals.specs.Room.{Room}
+use Rattle.refusals.specs.Room.{SheetFits}
 use Rattle.refusals.proofs.Rows.{not_large, sheet_room}
 use Rattle.outline.specs.Room.{Present, present}
 use Rattle.outline.proofs.Padding.{padded-ring}
@@ -45,7 +45,7 @@ module _ (h w len : ℕ) (b : Bool) where
   there work e =
       let one = rows_none (too_large h w) _ e in
       let r = (sheet_room {work = work} [] e).0 in
-      rw one.0 (yes_leb {m = h * w} {n = len} (omega (arith, r.held, needed-least h w b)))
+      rw one.0 (yes_leb {m = h * w} {n = len} (omega (arith, r.long, needed-least h w b)))
 
 -- an answer to whether padding applies: the rows go by it as by the rule, and where they refuse nothing, it is the rule's
 module _ (how : Drawing) (cells : List ℤ) (h w work : ℕ) {r : Bool} (is : r ≡ (present h w (length cells) && pads how (sheet_of cells h w))) where
@@ -68,8 +68,8 @@ present-sheet h w cells y =
     }
 
 -- sides and cells in a lent list
-pub seated : {h w work : ℕ} (b : Bool) (cells : List ℤ) → Room h w (needed h w b) (length cells) work → Present cells h w
-seated {h} {w} b cells r = record { high = omega (arith, r.high); wide = omega (arith, r.wide); room = omega (arith, r.held, needed-least h w b) }
+pub seated : {h w work : ℕ} (b : Bool) (cells : List ℤ) → SheetFits h w (needed h w b) (length cells) work → Present cells h w
+seated {h} {w} b cells r = record { high = omega (arith, r.high); wide = omega (arith, r.wide); room = omega (arith, r.long, needed-least h w b) }
 
 -- a sheet that is padded touches an edge
 pub pad_touches : (how : Drawing) (s : Sheet) → pads how s ≡ true → touches s ≡ true
@@ -122,12 +122,12 @@ ring_plain b s e = rw e
 
 -- ---- the needed cells of an accepted call, padded and not
 
-pub room_padded : {len work h w : ℕ} (b : Bool) → Room h w (needed h w b) len work → b ≡ true → ((h + 2) * (w + 2) ≤ len) × ((h + 2) * (w + 2) ≤ work)
+pub room_padded : {len work h w : ℕ} (b : Bool) → SheetFits h w (needed h w b) len work → b ≡ true → ((h + 2) * (w + 2) ≤ len) × ((h + 2) * (w + 2) ≤ work)
 unfolding needed
 room_padded {len} {work} {h} {w} b k e =
-    let i : needed h w true ≤ len = rw e at k.held in
+    let i : needed h w true ≤ len = rw e at k.long in
     let j : 8 * needed h w true ≤ work = rw e at k.free in
     (i, omega arith)
 
-pub room_plain : {len work h w : ℕ} (b : Bool) → Room h w (needed h w b) len work → (h * w ≤ len) × (h * w ≤ work)
-room_plain {h = h} {w = w} b k = (omega (arith, needed-least h w b, k.held), omega (arith, needed-least h w b, k.free))
+pub room_plain : {len work h w : ℕ} (b : Bool) → SheetFits h w (needed h w b) len work → (h * w ≤ len) × (h * w ≤ work)
+room_plain {h = h} {w = w} b k = (omega (arith, needed-least h w b, k.long), omega (arith, needed-least h w b, k.free))

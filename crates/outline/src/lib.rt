@@ -11,7 +11,7 @@ ghost use Rattle.rules.specs.Palette.{palette_of};
 ghost use Rattle.rules.specs.Outline.{pads, drawn, outline};
 ghost use Rattle.rules.specs.Calls.{OutlineCall};
 ghost use Rattle.rules.specs.Entries.{outline_answer, outline_cells, outline_palette};
-ghost use Rattle.refusals.specs.Room.{Room};
+ghost use Rattle.refusals.specs.Room.{SheetFits};
 ghost use Rattle.outline.specs.Room.{Present};
 ghost use Rattle.outline.specs.Drawing.{Drew};
 
@@ -63,7 +63,7 @@ pub fn outline_sheet(
     how: Drawing,
     work: &mut [u32],
 ) -> Facts
-    requires room { Room size.h size.w (needed size.h size.w (pads how (sheet_of cells.old size.h size.w))) (length cells.old) (length work.old) }
+    requires room { SheetFits size.h size.w (needed size.h size.w (pads how (sheet_of cells.old size.h size.w))) (length cells.old) (length work.old) }
     requires palette_len { (length palette.old ≡ 768) × (k ≤ 256) }
     ensures { Drew (outline (λ i. true) how (palette_of palette.old k) (sheet_of cells.old size.h size.w)) cells.old result cells.new palette.new }
 {

@@ -29,7 +29,7 @@ use Rattle.rules.proofs.Sizes.{needed-least, canvas-area, canvas_sides, toned-co
 use Rattle.rules.proofs.Opacity.{Alike, trans, cleaned-alike, cut-alike, pads-same, ring-same, canvas-alike, Shown, met_shown}
 use Rattle.orphans.specs.Entry.{Fit}
 use Rattle.outline.specs.Drawing.{Drew}
-use Rattle.refusals.specs.Room.{Room}
+use Rattle.refusals.specs.Room.{SheetFits}
 use Rattle.run_refusals.proofs.Refusing.{padding, Granted, granting}
 use Rattle.postprocess.proofs.Fronts.{Stands, stands_start, stands_size, stands_sheet, stands_next}
 use Rattle.postprocess.proofs.Holding.{area_same, Holds, reads, keeps, sized}
@@ -52,7 +52,7 @@ Met x answer cells lab = (answer ≡ run_answer x) × (cells ≡ run_cells x) ×
 pub record Left (r : Processing) (lent : ℕ) : Type 0 where
   pub high : r.sheet.height ≤ 514
   pub wide : r.sheet.width ≤ 514
-  pub held : r.sheet.height * r.sheet.width ≤ lent
+  pub long : r.sheet.height * r.sheet.width ≤ lent
   pub few : r.palette.count ≤ 256
   pub index : IfSome r.index (λ i. i < r.palette.count)
   pub full : length r.palette.lab ≡ 768
@@ -138,7 +138,7 @@ module _ (x : RunCall) where
     in_doubles = (omega (arith, g.few, g.full), g.few)
 
     start : Stands x.lent.cells came x.lent.cells
-    start = stands_start x.lent.cells h w (omega (arith, g.room.held, needed-least h w (padding x)))
+    start = stands_start x.lent.cells h w (omega (arith, g.room.long, needed-least h w (padding x)))
 
     ink-count : ink.count ≡ x.palette.count
     unfolding toned_palette
@@ -215,14 +215,14 @@ module _ (x : RunCall) where
 
     -- its room, and that of the palette
     pub line_room : {cells : List ℤ} {lab : List Float} {room : ℕ} → Held cut cells lab → room ≡ x.lent.work
-        → Room h w (needed h w (pads (drawing_of x) (sheet_of cells h w))) (length cells) room × (length lab ≡ 768) × (x.palette.count ≤ 256)
+        → SheetFits h w (needed h w (pads (drawing_of x) (sheet_of cells h w))) (length cells) room × (length lab ≡ 768) × (x.palette.count ≤ 256)
     line_room {cells} {lab} a e =
         let n = reads a (λ t q. needed h w (pads (drawing_of x) t)) ∙ ap (needed h w) pads-cut in (
           record {
             high = g.room.high;
             wide = g.room.wide;
             few = g.room.few;
-            held = omega (arith, n, g.room.held, stands_size a.stands);
+            long = omega (arith, n, g.room.long, stands_size a.stands);
             free = omega (arith, n, e, g.room.free);
           },
           ap (λ (q : Palette). length q.lab) a.palette ∙ ink-length,
@@ -266,7 +266,7 @@ module _ (x : RunCall) where
       pub line_holds : Holds x.lent.cells line.sheet line.palette new facts.height facts.width doubles facts.colours
       unfolding facts_of
       line_holds =
-          let n = stands_next a.stands drew.cells shown.full grown (omega (arith, line-area, g.room.held)) in
+          let n = stands_next a.stands drew.cells shown.full grown (omega (arith, line-area, g.room.long)) in
           record {
             stands = n;
             sheet = stands_sheet facts.height facts.width n (sym (ap (λ (f : Facts). f.height) line-told)) (sym (ap (λ (f : Facts). f.width) line-told));
@@ -297,7 +297,7 @@ module _ (x : RunCall) where
         record {
           high = rw alike-second.height cleanable_line.rows;
           wide = rw alike-second.width cleanable_line.cols;
-          held = rw (alike-second.height, alike-second.width) (omega (arith, line-area, g.room.held));
+          long = rw (alike-second.height, alike-second.width) (omega (arith, line-area, g.room.long));
           few = cleanable_line.entries;
           index = lined_cut.index;
           full = cleanable_line.doubles;

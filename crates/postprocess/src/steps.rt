@@ -5,7 +5,7 @@ ghost use Rattle.rules.specs.Palette.{palette_of};
 ghost use Rattle.rules.specs.Corners.{trim};
 ghost use Rattle.rules.specs.Outline.{pads};
 ghost use Rattle.rules.specs.Run.{clean_sheet_if, limits_of, toned, outline_if, cleans_again};
-ghost use Rattle.refusals.specs.Room.{Room};
+ghost use Rattle.refusals.specs.Room.{SheetFits};
 ghost use Rattle.orphans.specs.Entry.{Fit};
 ghost use Rattle.outline.specs.Drawing.{Drew};
 
@@ -73,7 +73,7 @@ pub fn outline_if(
     how: Drawing,
     work: &mut [u32],
 ) -> Facts
-    requires room { Room size.h size.w (needed size.h size.w (pads how (sheet_of cells.old size.h size.w))) (length cells.old) (length work.old) }
+    requires room { SheetFits size.h size.w (needed size.h size.w (pads how (sheet_of cells.old size.h size.w))) (length cells.old) (length work.old) }
     requires palette_len { (length palette.old ≡ 768) × (k ≤ 256) }
     ensures { Drew (outline_if (λ i. true) how (palette_of palette.old k) (sheet_of cells.old size.h size.w)) cells.old result cells.new palette.new }
 {

@@ -19,7 +19,7 @@ use Rattle.rules.specs.Palette.{Palette}
 use Rattle.rules.specs.Sheet.{needed}
 use Rattle.rules.specs.Masks.{grid_refusal}
 use Rattle.rules.specs.Rows.{too_large, too_short, cramped, bad_palette, bad_colour, bad_setting, sheet_rows, palette_rows}
-use Rattle.refusals.specs.Room.{Room, Usable}
+use Rattle.refusals.specs.Room.{SheetFits, Usable}
 
 -- ---- rows 1 to 3
 
@@ -40,14 +40,14 @@ few-needed h w true e =
     mul-le-mul high wide
 few-needed h w false e = omega (arith, few-cells h w e)
 
-pub sheet_room : {h w need lent work : ℕ} (more : List Row) → refusal (sheet_rows h w need lent work ++ more) ≡ None → Room h w need lent work × (refusal more ≡ None)
+pub sheet_room : {h w need lent work : ℕ} (more : List Row) → refusal (sheet_rows h w need lent work ++ more) ≡ None → SheetFits h w need lent work × (refusal more ≡ None)
 unfolding too_short cramped
 sheet_room {h} {w} {need} {lent} {work} more e =
     let one = rows_none (too_large h w) _ e in
     let two = rows_none (too_short lent need) _ one.1 in
     let three = rows_none (cramped work need) more two.1 in
     let sides = not_large h w one.0 in (
-      record { high = sides.0; wide = sides.1; few = few-cells h w one.0; held = ltb-false lent need two.0; free = ltb-false work (8 * need) three.0 },
+      record { high = sides.0; wide = sides.1; few = few-cells h w one.0; long = ltb-false lent need two.0; free = ltb-false work (8 * need) three.0 },
       three.1,
     )
 
@@ -71,11 +71,11 @@ pub by_shorter : (h w lent out work short : ℕ) (r : Result (Unit {0}) Refusal)
 by_shorter h w lent out work short r e s =
     e ∙ ap (λ (n : ℕ). answered (refusal (sheet_rows h w (h * w) n work)) tt) s ∙ ap (λ (o : Option Refusal). answered o tt) (shorter_list h w lent out work)
 
-pub grid_room : {h w lent out work : ℕ} → grid_refusal h w lent out work [] ≡ None → Room h w (h * w) lent work × (h * w ≤ out)
+pub grid_room : {h w lent out work : ℕ} → grid_refusal h w lent out work [] ≡ None → SheetFits h w (h * w) lent work × (h * w ≤ out)
 grid_room {h} {w} {lent} {out} {work} e =
     let r = (sheet_room {lent = min lent out} [] (shorter_list h w lent out work ∙ e)).0 in (
-      record { high = r.high; wide = r.wide; few = r.few; held = omega (arith, r.held, min-le_left lent out); free = r.free },
-      omega (arith, r.held, min-le_right lent out),
+      record { high = r.high; wide = r.wide; few = r.few; long = omega (arith, r.long, min-le_left lent out); free = r.free },
+      omega (arith, r.long, min-le_right lent out),
     )
 
 -- ---- rows 4 to 6

@@ -3,11 +3,11 @@ use Rattle.std.specs.Prelude.{ℕ, ◌*◌, ◌≤◌, ◌≡◌, Bool, false, l
 use Rattle.rules.specs.Palette.{Palette, out_of_range}
 
 -- rows 1 to 3 refuse nothing
-pub record Room (h w need lent work : ℕ) : Type 0 where
+pub record SheetFits (h w need lent work : ℕ) : Type 0 where
   pub high : h ≤ 512
   pub wide : w ≤ 512
   pub few : h * w ≤ 262144
-  pub held : need ≤ lent
+  pub long : need ≤ lent
   pub free : 8 * need ≤ work
 
 -- rows 4 to 6 refuse nothing

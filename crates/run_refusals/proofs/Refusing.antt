@@ -13,7 +13,7 @@ use Rattle.rules.specs.Calls.{RunCall}
 use Rattle.rules.specs.Run.{toned_palette, drawing_of}
 use Rattle.rules.specs.Rows.{bad_index, no_entry}
 use Rattle.rules.specs.Entries.{bad_ranges, bad_config, run_refusal}
-use Rattle.refusals.specs.Room.{Room}
+use Rattle.refusals.specs.Room.{SheetFits}
 use Rattle.refusals.proofs.Rows.{sheet_room, palette_room}
 
 module _ (c : RunCall) where
@@ -22,7 +22,7 @@ module _ (c : RunCall) where
   padding = pads (drawing_of c) (sheet_in c.lent)
 
   pub record Granted : Type 0 where
-    pub room : Room c.lent.height c.lent.width (needed c.lent.height c.lent.width padding) (length c.lent.cells) c.lent.work
+    pub room : SheetFits c.lent.height c.lent.width (needed c.lent.height c.lent.width padding) (length c.lent.cells) c.lent.work
     pub few : c.palette.count ≤ 256
     pub full : length c.palette.lab ≡ 768
     pub tones : out_of_range (toned_palette c) ≡ false

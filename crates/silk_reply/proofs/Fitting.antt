@@ -55,7 +55,7 @@ module _ (x : RunCall) (lent : length x.lent.cells ≡ 1764) where
   unfolding facts_of
   accepted e =
       let l = left x e in
-      fitting facts _ _ l.high l.wide l.few (omega (arith, l.full)) (omega (arith, l.held)) (omega (arith, over-length after.sheet.cells x.lent.cells))
+      fitting facts _ _ l.high l.wide l.few (omega (arith, l.full)) (omega (arith, l.long)) (omega (arith, over-length after.sheet.cells x.lent.cells))
 
   -- what `run` answers is printed
   pub printed : {done : Processed} → run_answer x ≡ Ok done → lengths_fit done.facts (length (run_palette x)) (length (run_cells x)) 32768 ≡ true

@@ -17,7 +17,7 @@ returns-in_err-sheet_refusal c =
 pub trim_sheet-requires : goal.trim_sheet-requires
 unfolding needed
 trim_sheet-requires c =
-    let r = (sheet_room [] (answered_none _ c.in_ok-sheet_refusal.ensures refl)).0 in (r.high, r.wide, r.held, r.free)
+    let r = (sheet_room [] (answered_none _ c.in_ok-sheet_refusal.ensures refl)).0 in (r.high, r.wide, r.long, r.free)
 
 pub returns : goal.returns
 unfolding jaggies_refusal jaggies_answer jaggies_cells needed

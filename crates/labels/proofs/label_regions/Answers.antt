@@ -24,7 +24,7 @@ load-requires c =
     let a = c.args in
     let z : grid_refusal a.h a.w (length a.cells.now) (length a.labels.now) (length a.work.now) [] ≡ None = answered_none (tt {0}) c.in_ok-grid_refusal.ensures refl in
     let f = grid_room z in
-    rw c.whole.ensures (whole_tile _ _ _ _ (omega (arith, f.0.high)) (omega (arith, f.0.wide)) f.0.held f.0.free)
+    rw c.whole.ensures (whole_tile _ _ _ _ (omega (arith, f.0.high)) (omega (arith, f.0.wide)) f.0.long f.0.free)
 
 pub invariant_of-grid : goal.invariant_of-grid
 invariant_of-grid c =
@@ -49,7 +49,7 @@ returns-clause-value c =
     let a = c.args in
     let z : grid_refusal a.h a.w (length a.cells.now) (length a.labels.now) (length a.work.now) [] ≡ None = answered_none (tt {0}) c.in_ok-grid_refusal.ensures refl in
     let n = a.h * a.w in
-    let s : Painted (take n a.cells.now) n c.load.new.work = subst (Painted (take n a.cells.now) n) (sym (rw c.whole.ensures at c.load.ensures.work_after)) (load_whole a.cells.now a.work.now a.h a.w (grid_room z).0.held) in
+    let s : Painted (take n a.cells.now) n c.load.new.work = subst (Painted (take n a.cells.now) n) (sym (rw c.whole.ensures at c.load.ensures.work_after)) (load_whole a.cells.now a.work.now a.h a.w (grid_room z).0.long) in
     none_answered _ z (c.label_into.ensures.value ∙ painted-regions s (neighbours-eight a.w))
 
 pub returns-clause-labels_after : goal.returns-clause-labels_after
@@ -58,5 +58,5 @@ returns-clause-labels_after c =
     let a = c.args in
     let z : grid_refusal a.h a.w (length a.cells.now) (length a.labels.now) (length a.work.now) [] ≡ None = answered_none (tt {0}) c.in_ok-grid_refusal.ensures refl in
     let n = a.h * a.w in
-    let s : Painted (take n a.cells.now) n c.load.new.work = subst (Painted (take n a.cells.now) n) (sym (rw c.whole.ensures at c.load.ensures.work_after)) (load_whole a.cells.now a.work.now a.h a.w (grid_room z).0.held) in
+    let s : Painted (take n a.cells.now) n c.load.new.work = subst (Painted (take n a.cells.now) n) (sym (rw c.whole.ensures at c.load.ensures.work_after)) (load_whole a.cells.now a.work.now a.h a.w (grid_room z).0.long) in
     none_unless _ _ z (c.label_into.ensures.labels_after ∙ painted_labels s (neighbours-eight a.w) _)

@@ -43,7 +43,7 @@ pub bad_index-requires : goal.bad_index-requires
 unfolding needed
 bad_index-requires c =
     let room = (sheet_room [] (answered_none (tt {0}) c.in_ok-sheet_refusal.ensures refl)).0 in
-    ((palette_room [] (answered_none (tt {0}) c.in_ok-palette_refusal.ensures refl)).0.few, room.held)
+    ((palette_room [] (answered_none (tt {0}) c.in_ok-palette_refusal.ensures refl)).0.few, room.long)
 
 pub returns-then-bad_index : goal.returns-then-bad_index
 unfolding bad_limits

@@ -19,7 +19,7 @@ use Rattle.rules.specs.Outline.{pads, canvas}
 use Rattle.rules.specs.Rows.{sheet_rows, palette_rows, no_entry}
 use Rattle.rules.specs.Calls.{OutlineCall}
 use Rattle.rules.specs.Entries.{lent_rows, bad_outline, outline_refusal}
-use Rattle.refusals.specs.Room.{Room, Usable}
+use Rattle.refusals.specs.Room.{SheetFits, Usable}
 use Rattle.refusals.proofs.Rows.{sheet_room, palette_room}
 use Rattle.outline.specs.Room.{present}
 use Rattle.outline.proofs.Refusing.{padded_rows, padded-is, seated, pad_touches}
@@ -48,7 +48,7 @@ module _ (cells : List ℤ) (h w : ℕ) (lab : List Float) (k : ℕ) (outline : 
       sheet_passes : refusal (lent_rows call.lent pads_it) ≡ None
       sheet_passes = sym (padded_rows call.how cells h w work is) ∙ answered_none (tt {0}) first refl
 
-      room : Room h w (needed h w pads_it) (length cells) work
+      room : SheetFits h w (needed h w pads_it) (length cells) work
       room = (sheet_room _ sheet_passes).0
 
       padding-is : padded ≡ pads_it

@@ -20,7 +20,7 @@ use Rattle.rules.specs.Calls.{RunCall}
 use Rattle.rules.specs.Run.{pad_allowed, drawing_of}
 use Rattle.rules.specs.Rows.{sheet_rows, palette_rows, bad_index, no_entry}
 use Rattle.rules.specs.Entries.{lent_rows, bad_config, run_refusal}
-use Rattle.refusals.specs.Room.{Room}
+use Rattle.refusals.specs.Room.{SheetFits}
 use Rattle.refusals.proofs.Rows.{sheet_room, palette_room}
 use Rattle.outline.specs.Room.{present}
 use Rattle.outline.proofs.Refusing.{padded_rows, padded-is, seated, pad_touches}
@@ -51,7 +51,7 @@ module _ (k : RunCall) {how : Drawing} (drawn : how ≡ record { outline = k.con
       sheet_passes : refusal (lent_rows k.lent (padding k)) ≡ None
       sheet_passes = sym (padded_rows (drawing_of k) k.lent.cells k.lent.height k.lent.width k.lent.work as_padded) ∙ answered_none (tt {0}) first refl
 
-      room : Room k.lent.height k.lent.width (needed k.lent.height k.lent.width (padding k)) (length k.lent.cells) k.lent.work
+      room : SheetFits k.lent.height k.lent.width (needed k.lent.height k.lent.width (padding k)) (length k.lent.cells) k.lent.work
       room = (sheet_room _ sheet_passes).0
 
       padding-is : padded ≡ padding k

@@ -36,7 +36,7 @@ dilate-requires c =
     let z : grid_refusal a.h a.w (length a.mask.now) (length a.out.now) (length a.work.now) [] ≡ None = answered_none (tt {0}) c.in_ok-grid_refusal.ensures refl in
     let f = grid_room z in
     let r = reach-small a.h a.w a.iterations f.0.high f.0.wide c.if-iterations-gt-MOST_ITERATIONS.false in
-    record { h_bound = (f.0.high, f.0.wide, c.if-h-w-gt0.true, omega (arith, r, c.reach-k.ensures)); w_in_bounds = (f.0.held, f.1, f.0.free) }
+    record { h_bound = (f.0.high, f.0.wide, c.if-h-w-gt0.true, omega (arith, r, c.reach-k.ensures)); w_in_bounds = (f.0.long, f.1, f.0.free) }
 
 pub returns-then-h-w-gt0 : goal.returns-then-h-w-gt0
 unfolding dilation_answer dilation_out

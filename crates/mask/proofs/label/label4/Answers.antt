@@ -34,7 +34,7 @@ slice_bounds-paint-end c =
     let a = c.args in
     let z : grid_refusal a.h a.w (length a.mask.now) (length a.labels.now) (length a.work.now) [] ≡ None = answered_none (tt {0}) c.in_ok-grid_refusal.ensures refl in
     let f = grid_room z in
-    sym (length-take-le (a.h * a.w) a.mask.now f.0.held)
+    sym (length-take-le (a.h * a.w) a.mask.now f.0.long)
 
 pub slice_bounds-paint-end-2 : goal.slice_bounds-paint-end-2
 slice_bounds-paint-end-2 c =
@@ -55,7 +55,7 @@ paint-requires c =
     let a = c.args in
     let z : grid_refusal a.h a.w (length a.mask.now) (length a.labels.now) (length a.work.now) [] ≡ None = answered_none (tt {0}) c.in_ok-grid_refusal.ensures refl in
     let f = grid_room z in
-    length-take-le (a.h * a.w) a.mask.now f.0.held ∙ sym (length-take-le (a.h * a.w) a.work.now (omega (arith, f.0.free)))
+    length-take-le (a.h * a.w) a.mask.now f.0.long ∙ sym (length-take-le (a.h * a.w) a.work.now (omega (arith, f.0.free)))
 
 pub invariant_of-grid : goal.invariant_of-grid
 invariant_of-grid c =
@@ -71,7 +71,7 @@ label_into-requires c =
     let f = grid_room z in
     let n = a.h * a.w in
     let e : c.paint.new.plane ++ drop n a.work.now ≡ filled n (λ p. bit_of (get_or a.mask.now p 0)) a.work.now =
-    painted_front a.mask.now a.work.now c.paint.new.plane n _ c.paint.ensures (length-take-le n a.mask.now f.0.held) in
+    painted_front a.mask.now a.work.now c.paint.new.plane n _ c.paint.ensures (length-take-le n a.mask.now f.0.long) in
     record {
       sized = (record { rows = omega (arith, f.0.high); cols = omega (arith, f.0.wide); planes = omega (arith, f.0.free, ap length e, filled-length n (λ p. bit_of (get_or a.mask.now p 0)) a.work.now (omega (arith, f.0.free))) }, f.1);
       by_index = bits_small a.mask.now a.work.now _ n e;
@@ -85,8 +85,8 @@ returns c =
     let f = grid_room z in
     let n = a.h * a.w in
     let e : c.paint.new.plane ++ drop n a.work.now ≡ filled n (λ p. bit_of (get_or a.mask.now p 0)) a.work.now =
-    painted_front a.mask.now a.work.now c.paint.new.plane n _ c.paint.ensures (length-take-le n a.mask.now f.0.held) in
-    let s : Painted (mask_cells (take n a.mask.now)) n (c.paint.new.plane ++ drop n a.work.now) = subst (Painted (mask_cells (take n a.mask.now)) n) (sym e) (mask_painted a.mask.now a.work.now n f.0.held) in
+    painted_front a.mask.now a.work.now c.paint.new.plane n _ c.paint.ensures (length-take-le n a.mask.now f.0.long) in
+    let s : Painted (mask_cells (take n a.mask.now)) n (c.paint.new.plane ++ drop n a.work.now) = subst (Painted (mask_cells (take n a.mask.now)) n) (sym e) (mask_painted a.mask.now a.work.now n f.0.long) in
     record {
       value = none_answered _ z (c.label_into.ensures.value ∙ painted-regions s (neighbours-four a.w));
       labels_after = none_unless _ _ z (c.label_into.ensures.labels_after ∙ painted_labels s (neighbours-four a.w) _);

@@ -4,7 +4,7 @@ use mir.Val.{SFits}
 use mir.Facts.{to_z-of_z}
 use Rattle.std.proofs.Common.{◌≡◌, ◌+◌, ◌*◌, ◌<◌, pos, length, get_or, sym, ap, ◌∙◌, rules, arith}
 use Rattle.grid.specs.Planes.{paint_of}
-use Rattle.grid.specs.Tiles.{paint_at}
+use Rattle.grid.specs.Tiles.{tile_paint}
 use Rattle.grid.proofs.Tiles.{bounds, read_spot, load_more, paints_more, paints_to}
 use Rattle.grid.proofs.tile.Tile.load_row.Goals as goal
 
@@ -12,14 +12,14 @@ pub bounds-cells-i : goal.bounds-cells-i
 bounds-cells-i c = (bounds c.requires.lies c.args.y c.loop-x.x c.requires.y_lt_h c.loop-x-test.true).spot
 
 pub loop-x-preserved : goal.loop-x-preserved
-unfolding paint_at
+unfolding tile_paint
 loop-x-preserved c =
     let a = c.args in
     let x = c.loop-x.x in
     let k = a.y * a.self.w + x in
     let cell = get_or a.cells.now (a.self.start + a.y * a.self.stride + x) (pos 0) in
     let known : SFits w32 cell = search rules in
-    let e : c.paint.result ≡ paint_at a.cells.now a.self k =
+    let e : c.paint.result ≡ tile_paint a.cells.now a.self k =
     rw (to_z-of_z known) at c.paint.ensures.0 ∙ ap paint_of (sym (read_spot c.requires.lies a.y x c.requires.y_lt_h c.loop-x-test.true)) in
     let room : k < length c.loop-x.work = omega (arith, bounds c.requires.lies a.y x c.requires.y_lt_h c.loop-x-test.true) in
     record {

@@ -10,4 +10,4 @@ pub returns : goal.returns
 returns c =
     let a = c.args in
     let e : c.loop-y.y ≡ a.self.h = omega arith in
-    stored-to (c.loop-y.y * a.self.w) (a.self.h * a.self.w) _ _ _ _ (ap (λ (k : ℕ). k * a.self.w) e) c.loop-y.invariant ∙ store_all a.cells.now a.work.now a.self c.requires.lies.within
+    stored-to (c.loop-y.y * a.self.w) (a.self.h * a.self.w) _ _ _ _ (ap (λ (k : ℕ). k * a.self.w) e) c.loop-y.invariant ∙ store_all a.cells.now a.work.now a.self c.requires.lies.narrow
