@@ -18,7 +18,7 @@ use Rattle.base.proofs.Counting.{case, clash, left, right, not_true, eqb_yes, ye
 use Rattle.rules.specs.Sheet.{Sheet}
 use Rattle.rules.specs.Corners.{Corner, corners, same, look, finds, opposite, arms, around, goes_on, is_corner, trimmed_by}
 use Rattle.grid.specs.Planes.{paint_of, cell_of}
-use Rattle.jaggies.specs.Rows.{OnBoth, way, seen, cut, toward}
+use Rattle.jaggies.specs.Rows.{OnBoth, way, found_paint, cut, toward}
 use Rattle.jaggies.proofs.Steps.{same_paint, finds_paint}
 
 -- ---- a paint on two sides
@@ -109,21 +109,21 @@ toward_one next a = case (eqb next a) (λ y. rw y refl) (λ z. rw z refl)
 
 -- at a corner of a cell of the paint a the arms have it, and the cells across from them do not
 pub record Sided (s : Sheet) (p : ℕ) (c : Corner) (a : ℕ) : Type 0 where
-  pub beside : seen (look s p (pos 0) c.sx) ≡ a
-  pub across : seen (look s p (pos 0) (neg_ℤ c.sx)) ≡ a → ⊥
-  pub along : seen (look s p c.sy (pos 0)) ≡ a
-  pub behind : seen (look s p (neg_ℤ c.sy) (pos 0)) ≡ a → ⊥
+  pub beside : found_paint (look s p (pos 0) c.sx) ≡ a
+  pub across : found_paint (look s p (pos 0) (neg_ℤ c.sx)) ≡ a → ⊥
+  pub along : found_paint (look s p c.sy (pos 0)) ≡ a
+  pub behind : found_paint (look s p (neg_ℤ c.sy) (pos 0)) ≡ a → ⊥
 
 module _ (s : Sheet) (p : ℕ) (a : ℕ) (la : 0 < a) where
-  finds_yes : (dy dx : ℤ) → finds s p dy dx (cell_of a) ≡ true → seen (look s p dy dx) ≡ a
+  finds_yes : (dy dx : ℤ) → finds s p dy dx (cell_of a) ≡ true → found_paint (look s p dy dx) ≡ a
   finds_yes dy dx e = eqb_yes (finds_paint s p dy dx a la ∙ e)
 
   -- a step that finds another index does not find a
-  finds_other : (dy dx z : ℤ) → non_neg z ≡ true → same z (cell_of a) ≡ false → finds s p dy dx z ≡ true → seen (look s p dy dx) ≡ a → ⊥
+  finds_other : (dy dx z : ℤ) → non_neg z ≡ true → same z (cell_of a) ≡ false → finds s p dy dx z ≡ true → found_paint (look s p dy dx) ≡ a → ⊥
   finds_other dy dx z o n e f =
       let lz : 0 < paint_of z = solid_paint z o in
       let g : finds s p dy dx (cell_of (paint_of z)) ≡ true = rw (cell_paint z o) e in
-      let q : seen (look s p dy dx) ≡ paint_of z = eqb_yes (finds_paint s p dy dx (paint_of z) lz ∙ g) in
+      let q : found_paint (look s p dy dx) ≡ paint_of z = eqb_yes (finds_paint s p dy dx (paint_of z) lz ∙ g) in
       clash (same_paint z a la ∙ yes_eqb (sym q ∙ f)) n
 
   -- the parts of the rule that say so
@@ -184,8 +184,8 @@ module _ (s : Sheet) (p : ℕ) (a : ℕ) (la : 0 < a) where
   by_four = rw (by_next, by_next, by_next, by_next, by_none)
 
   -- by the paints of the four cells beside, above and below
-  module _ (l r u d : ℕ) (el : l ≡ seen (look s p (pos 0) (negsuc 0))) (er : r ≡ seen (look s p (pos 0) (pos 1)))
-      (eu : u ≡ seen (look s p (negsuc 0) (pos 0))) (ed : d ≡ seen (look s p (pos 1) (pos 0))) where
+  module _ (l r u d : ℕ) (el : l ≡ found_paint (look s p (pos 0) (negsuc 0))) (er : r ≡ found_paint (look s p (pos 0) (pos 1)))
+      (eu : u ≡ found_paint (look s p (negsuc 0) (pos 0))) (ed : d ≡ found_paint (look s p (pos 1) (pos 0))) where
     not_left : (sy : ℤ) → (l ≡ a → r ≡ a) → corner sy (negsuc 0) ≡ None
     not_left sy f = no_corner (way sy (negsuc 0)) (λ k. k.across (sym er ∙ f (el ∙ k.beside)))
 

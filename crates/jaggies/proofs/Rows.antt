@@ -22,13 +22,13 @@ use Rattle.rules.specs.Corners.{corners, trimmed_by, trimmed, trim}
 use Rattle.rules.proofs.Reading.{read_at}
 use Rattle.grid.specs.Planes.{paint_of, cell_of}
 use Rattle.jaggies.specs.declared.Spot.{Spot}
-use Rattle.jaggies.specs.Rows.{place_of, end_of, spot, paint_at, most, Paints, Room, Held, Shown, Trimmed, Moved}
+use Rattle.jaggies.specs.Rows.{spot_place, row_end, spot_at, old_paint, largest_paint, RowsHoldPaints, SpotFits, OldRows, Shown, Trimmed, Moved}
 use Rattle.jaggies.proofs.Cuts.{solid, clear, cell_paint, unpaint}
 
 -- ---- one spot
 
 -- room is a matter of lengths
-pub same_room : {cells new : List ℤ} {work : List ℕ} {s : Spot} → length new ≡ length cells → Room cells work s → Room new work s
+pub same_room : {cells new : List ℤ} {work : List ℕ} {s : Spot} → length new ≡ length cells → SpotFits cells work s → SpotFits new work s
 same_room e r = record {
   row = r.row;
   col = r.col;
@@ -40,21 +40,21 @@ same_room e r = record {
 }
 
 -- where a spot's own paint stands in the work area
-pub own_place : (s : Spot) → s.x < s.w → place_of s + 3 * s.w - end_of s ≡ 2 * s.w + s.x
+pub own_place : (s : Spot) → s.x < s.w → spot_place s + 3 * s.w - row_end s ≡ 2 * s.w + s.x
 own_place s l = omega arith
 
-pub own_paint : (s : Spot) → s.x < s.w → {old : List ℤ} {work : List ℕ} → Held old work s.w (end_of s) → get_or work (2 * s.w + s.x) 0 ≡ paint_of (at old (place_of s))
-own_paint s l held = rw (own_place s l) at (held.paint (place_of s) (omega arith) (omega arith))
+pub own_paint : (s : Spot) → s.x < s.w → {old : List ℤ} {work : List ℕ} → OldRows old work s.w (row_end s) → get_or work (2 * s.w + s.x) 0 ≡ paint_of (at old (spot_place s))
+own_paint s l rows = rw (own_place s l) at (rows.paint (spot_place s) (omega arith) (omega arith))
 
--- what a test reads is the sheet as it was: above and in the spot's row it is held, below it is not yet written
-pub shown : {old cells : List ℤ} {work : List ℕ} {s : Spot} → s.x < s.w → Held old work s.w (end_of s) → Trimmed old s.h s.w (place_of s) cells → Shown old cells work s
-unfolding paint_at
-shown {old} {cells} {work} {s} l held t = record { paint = λ q a b. go q a b (dec_lt q (end_of s)) }
+-- what a test reads is the sheet as it was: above and in the spot's row it stands in the work area, below it is not yet written over
+pub shown : {old cells : List ℤ} {work : List ℕ} {s : Spot} → s.x < s.w → OldRows old work s.w (row_end s) → Trimmed old s.h s.w (spot_place s) cells → Shown old cells work s
+unfolding old_paint
+shown {old} {cells} {work} {s} l rows t = record { paint = λ q a b. go q a b (dec_lt q (row_end s)) }
   where
-    go : (q : ℕ) → end_of s ≤ q + 3 * s.w → q < s.h * s.w → Dec (q < end_of s) → paint_at cells work s.w (end_of s) q ≡ paint_of (at old q)
-    go q a b (yes y) = rw (lt-ltb q (end_of s) y) (held.paint q y a)
+    go : (q : ℕ) → row_end s ≤ q + 3 * s.w → q < s.h * s.w → Dec (q < row_end s) → old_paint cells work s.w (row_end s) q ≡ paint_of (at old q)
+    go q a b (yes y) = rw (lt-ltb q (row_end s) y) (rows.paint q y a)
     go q a b (no n) =
-        rw (le-ltb q (end_of s) (omega arith), t.filled, filled_past (place_of s) (trimmed (sheet_of old s.h s.w)) old (pos 0) q (omega arith))
+        rw (le-ltb q (row_end s) (omega arith), t.filled, filled_past (spot_place s) (trimmed (sheet_of old s.h s.w)) old (pos 0) q (omega arith))
         (ap paint_of (read_at old q (omega (arith, t.whole))))
 
 -- one more place is trimmed
@@ -126,7 +126,7 @@ module _ {cells : List ℤ} {w end : ℕ} {before work : List ℕ} {i : ℕ} (m 
   bottom : get_or new (2 * w + i) 0 ≡ v
   bottom = get_or-set_same twice (2 * w + i) v 0 (simp length-set (omega arith))
 
-  pub moved_more : v ≡ paint_of (get_or cells (end + i) (pos 0)) → v ≤ most → Moved cells w end before new (i + 1)
+  pub moved_more : v ≡ paint_of (get_or cells (end + i) (pos 0)) → v ≤ largest_paint → Moved cells w end before new (i + 1)
   moved_more ev sv = record {
     first = below_more _ _ (λ j k. other j (λ z. omega arith) (λ z. omega arith) (λ z. omega arith) ∙ m.first j k) top;
     second = below_more _ _ (λ j k. other (w + j) (λ z. omega arith) (λ z. omega arith) (λ z. omega arith) ∙ m.second j k) middle;
@@ -155,8 +155,8 @@ module _ {cells : List ℤ} {w end : ℕ} {before work : List ℕ} (m : Moved ce
   fresh : (q : ℕ) → (q < end → ⊥) → q + 3 * w - (end + w) ≡ 2 * w + (q - end)
   fresh q n = omega arith
 
-  pub held_on : {old : List ℤ} → Held old before w end → ((q : ℕ) → end ≤ q → q < end + w → get_or cells q (pos 0) ≡ at old q) → Held old work w (end + w)
-  held_on {old} h c = record { paint = λ q y a. go q y a (dec_lt q end) }
+  pub old_rows_on : {old : List ℤ} → OldRows old before w end → ((q : ℕ) → end ≤ q → q < end + w → get_or cells q (pos 0) ≡ at old q) → OldRows old work w (end + w)
+  old_rows_on {old} h c = record { paint = λ q y a. go q y a (dec_lt q end) }
     where
       go : (q : ℕ) → q < end + w → end + w ≤ q + 3 * w → Dec (q < end) → get_or work (q + 3 * w - (end + w)) 0 ≡ paint_of (at old q)
       go q y a (yes b) = carried q b a ∙ h.paint q b (omega arith)
@@ -164,43 +164,43 @@ module _ {cells : List ℤ} {w end : ℕ} {before work : List ℕ} (m : Moved ce
           let e : end + (q - end) ≡ q = omega arith in
           ap (λ (k : ℕ). get_or work k 0) (fresh q n) ∙ m.third (q - end) (omega arith) ∙ ap (λ (k : ℕ). paint_of (get_or cells k (pos 0))) e ∙ ap paint_of (c q (omega arith) y)
 
-  pub paints_on : Paints before w end → Paints work w (end + w)
+  pub paints_on : RowsHoldPaints before w end → RowsHoldPaints work w (end + w)
   paints_on s = record { small = λ q y a. go q y a (dec_lt q end) }
     where
-      go : (q : ℕ) → q < end + w → end + w ≤ q + 3 * w → Dec (q < end) → get_or work (q + 3 * w - (end + w)) 0 ≤ most
+      go : (q : ℕ) → q < end + w → end + w ≤ q + 3 * w → Dec (q < end) → get_or work (q + 3 * w - (end + w)) 0 ≤ largest_paint
       go q y a (yes b) = rw (carried q b a) (s.small q b (omega arith))
       go q y a (no n) = rw (fresh q n) (m.small (q - end) (omega arith))
 
 -- ---- the whole sheet
 
--- y rows of the sheet `old` are trimmed, and the last three of them are held
+-- y rows of the sheet `old` are trimmed, and the last three of them stand in the work area
 pub record Rowed (old : List ℤ) (h w : ℕ) (cells : List ℤ) (work : List ℕ) (y : ℕ) : Type 0 where
   pub trimmed : Trimmed old h w (y * w) cells
-  pub held : Held old work w (y * w)
-  pub paints : Paints work w (y * w)
+  pub rows : OldRows old work w (y * w)
+  pub paints : RowsHoldPaints work w (y * w)
 
 pub no_rows : (old : List ℤ) (work : List ℕ) (h w : ℕ) → h * w ≤ length old → Rowed old h w old work 0
 no_rows old work h w l =
     let z : 0 * w ≡ 0 = zero-mul w in
     record {
       trimmed = rw z (record { whole = l; filled = filled_none (trimmed (sheet_of old h w)) old });
-      held = record { paint = λ q y a. absurd (omega arith) };
+      rows = record { paint = λ q y a. absurd (omega arith) };
       paints = record { small = λ q y a. absurd (omega arith) };
     }
 
 module _ {old : List ℤ} {h w : ℕ} {cells : List ℤ} {work : List ℕ} {y : ℕ} (r : Rowed old h w cells work y) (l : y < h) where
   -- the row's end is on the sheet
-  pub row_end : y * w + w ≤ h * w
-  row_end = let k : y + 1 ≤ h = omega arith in omega (arith, mul-le-mul_right w k, add-mul y 1 w)
+  pub row_inside : y * w + w ≤ h * w
+  row_inside = let k : y + 1 ≤ h = omega arith in omega (arith, mul-le-mul_right w k, add-mul y 1 w)
 
   -- the rows from y on are untouched
   ahead : (q : ℕ) → y * w ≤ q → q < y * w + w → get_or cells q (pos 0) ≡ at old q
   ahead q a b =
       rw (r.trimmed.filled, filled_past (y * w) (trimmed (sheet_of old h w)) old (pos 0) q a)
-      (read_at old q (omega (arith, row_end, r.trimmed.whole)))
+      (read_at old q (omega (arith, row_inside, r.trimmed.whole)))
 
   -- once the row is taken in there is room for its tests
-  pub row_room : {new : List ℕ} → length cells ≡ length old → Moved cells w (y * w) work new w → h ≤ 512 → w ≤ 512 → 3 * w ≤ length new → (x : ℕ) → x < w → Room cells new (spot h w y x)
+  pub row_room : {new : List ℕ} → length cells ≡ length old → Moved cells w (y * w) work new w → h ≤ 512 → w ≤ 512 → 3 * w ≤ length new → (x : ℕ) → x < w → SpotFits cells new (spot_at h w y x)
   row_room e m a b c x k = record {
     row = l;
     col = k;
@@ -213,13 +213,13 @@ module _ {old : List ℤ} {h w : ℕ} {cells : List ℤ} {work : List ℕ} {y : 
 
   -- one more row
   pub rowed_more : {new : List ℕ} {cells' : List ℤ} → Moved cells w (y * w) work new w →
-      (Held old new w (y * w + w) → Trimmed old h w (y * w) cells → Trimmed old h w (y * w + w) cells') → Rowed old h w cells' new (y + 1)
+      (OldRows old new w (y * w + w) → Trimmed old h w (y * w) cells → Trimmed old h w (y * w + w) cells') → Rowed old h w cells' new (y + 1)
   rowed_more m t =
       let next : y * w + w ≡ (y + 1) * w = omega (arith, add-mul y 1 w) in
-      let held = held_on m r.held ahead in
+      let rows = old_rows_on m r.rows ahead in
       record {
-        trimmed = rw next at (t held r.trimmed);
-        held = rw next at held;
+        trimmed = rw next at (t rows r.trimmed);
+        rows = rw next at rows;
         paints = rw next at (paints_on m r.paints);
       }
 

@@ -18,7 +18,7 @@ use Rattle.rules.specs.Grid.{step_to}
 use Rattle.rules.specs.Corners.{Corner, same, look, finds, opposite}
 use Rattle.grid.specs.Planes.{paint_of, cell_of}
 use Rattle.grid.proofs.Places.{row_of, col_of, Shifted, Found, step_sound}
-use Rattle.jaggies.specs.Rows.{Short, seen}
+use Rattle.jaggies.specs.Rows.{Short, found_paint}
 
 -- a cell is an opaque one exactly if it has its paint
 pub same_paint : (z : ℤ) (a : ℕ) → 0 < a → same z (cell_of a) ≡ eqb (paint_of z) a
@@ -43,12 +43,12 @@ module _ (old : List ℤ) (h w y x : ℕ) (lx : x < w) (dy dx : ℤ) where
   from_place : step_to h w ((y * w + x) / w) ((y * w + x) % w) dy dx ≡ step_to h w y x dy dx
   from_place = rw (row_of w y x lx, col_of w y x lx)
 
-  pub look-off : step_to h w y x dy dx ≡ None → 0 ≡ seen (look (sheet_of old h w) (y * w + x) dy dx)
-  unfolding look seen sheet_of
+  pub look-off : step_to h w y x dy dx ≡ None → 0 ≡ found_paint (look (sheet_of old h w) (y * w + x) dy dx)
+  unfolding look found_paint sheet_of
   look-off e = rw (from_place ∙ e, look)
 
-  pub look-on : (q : ℕ) → q < h * w → step_to h w y x dy dx ≡ Some q → paint_of (at old q) ≡ seen (look (sheet_of old h w) (y * w + x) dy dx)
-  unfolding look seen sheet_of at
+  pub look-on : (q : ℕ) → q < h * w → step_to h w y x dy dx ≡ Some q → paint_of (at old q) ≡ found_paint (look (sheet_of old h w) (y * w + x) dy dx)
+  unfolding look found_paint sheet_of at
   look-on q l e = rw (from_place ∙ e, look) (ap paint_of (sym (get_or-take (h * w) old q (negsuc 0) l)))
 
 module _ (s : Sheet) (p : ℕ) where
@@ -57,19 +57,19 @@ module _ (s : Sheet) (p : ℕ) where
   found_by a e f g = rw (sym e, sym f) g
 
   -- a step finds an opaque cell exactly if it finds its paint
-  pub finds_paint : (dy dx : ℤ) (a : ℕ) → 0 < a → eqb (seen (look s p dy dx)) a ≡ finds s p dy dx (cell_of a)
-  unfolding finds seen
+  pub finds_paint : (dy dx : ℤ) (a : ℕ) → 0 < a → eqb (found_paint (look s p dy dx)) a ≡ finds s p dy dx (cell_of a)
+  unfolding finds found_paint
   finds_paint dy dx a l = go (look s p dy dx)
     where
-      go : (o : Option ℤ) → eqb (seen o) a ≡ elim o [ None ↦ false | Some b ↦ same b (cell_of a) ]
+      go : (o : Option ℤ) → eqb (found_paint o) a ≡ elim o [ None ↦ false | Some b ↦ same b (cell_of a) ]
       go None = ne_eqb 0 a (omega arith)
       go (Some b) = sym (same_paint b a l)
 
   -- the cell opposite a corner, by paint
-  pub opposite_paint : (c : Corner) → seen (look s p (neg_ℤ c.sy) (neg_ℤ c.sx)) ≡ paint_of (opposite s p c)
-  unfolding opposite seen paint_of
+  pub opposite_paint : (c : Corner) → found_paint (look s p (neg_ℤ c.sy) (neg_ℤ c.sx)) ≡ paint_of (opposite s p c)
+  unfolding opposite found_paint paint_of
   opposite_paint c = go (look s p (neg_ℤ c.sy) (neg_ℤ c.sx))
     where
-      go : (o : Option ℤ) → seen o ≡ paint_of (elim o [ None ↦ negsuc 0 | Some b ↦ b ])
+      go : (o : Option ℤ) → found_paint o ≡ paint_of (elim o [ None ↦ negsuc 0 | Some b ↦ b ])
       go None = refl
       go (Some b) = refl

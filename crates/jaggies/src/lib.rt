@@ -8,7 +8,7 @@ ghost use Rattle.rules.specs.Calls.{JaggiesCall};
 ghost use Rattle.rules.specs.Corners.{look, finds, arms, around, goes_on, corners, trimmed_by, trim};
 ghost use Rattle.rules.specs.Entries.{jaggies_answer, jaggies_cells};
 ghost use Rattle.grid.specs.Planes.{paint_of, cell_of};
-ghost use Rattle.jaggies.specs.Rows.{place_of, end_of, spot, most, paint_at, Room, Held, Trimmed, Moved, Short, way, seen, cut, toward, OnBoth};
+ghost use Rattle.jaggies.specs.Rows.{spot_place, row_end, spot_at, largest_paint, old_paint, SpotFits, OldRows, Trimmed, Moved, Short, way, found_paint, cut, toward, OnBoth};
 
 use base::Refusal;
 use grid::tile::paint;
@@ -42,7 +42,7 @@ struct View<'a> {
     cells: &'a [i32],
     work: &'a [u32],
     at: Spot,
-    ghost room: { Room cells.now work.now at },
+    ghost room: { SpotFits cells.now work.now at },
 }
 
 // The way from a spot of the paint a to an arm of its corner: on, if the next cell that way has the paint too, else back.
@@ -65,8 +65,8 @@ impl View<'_> {
 
     // The paint that stood at the place q; the rows in the work area end with the spot's.
     fn was(&self, q: usize) -> u32
-        requires { (q < self.now.at.h * self.now.at.w) × (end_of self.now.at ≤ q + 3 * self.now.at.w) }
-        ensures { (result ≡ paint_at self.now.cells.now self.now.work.now self.now.at.w (end_of self.now.at) q) × (result ≤ most) }
+        requires { (q < self.now.at.h * self.now.at.w) × (row_end self.now.at ≤ q + 3 * self.now.at.w) }
+        ensures { (result ≡ old_paint self.now.cells.now self.now.work.now self.now.at.w (row_end self.now.at) q) × (result ≤ largest_paint) }
     {
         let w = self.at.w;
         let end = self.at.y * w + w;
@@ -80,8 +80,8 @@ impl View<'_> {
     // The paint of the cell that a step from the spot finds; off the grid it is 0.
     fn look(&self, dy: i32, dx: i32) -> u32
         requires { Short dy × Short dx }
-        ensures sees { Tells self.now result (λ s p. seen (look s p dy dx)) }
-        ensures upper_bound { result ≤ most }
+        ensures sees { Tells self.now result (λ s p. found_paint (look s p dy dx)) }
+        ensures upper_bound { result ≤ largest_paint }
     {
         let at = self.at;
         let grid = Grid {
@@ -138,7 +138,7 @@ impl View<'_> {
     fn cut(&self, c: Corner, a: u32) -> Option<u32>
         requires { 0 < a }
         ensures sees { Tells self.now result (λ s p. cut s p (way c.sy c.sx) (cell_of a)) }
-        ensures bounds { IfSome result (λ b. (0 < b) × (b ≤ most)) }
+        ensures bounds { IfSome result (λ b. (0 < b) × (b ≤ largest_paint)) }
     {
         let b = self.look(-c.sy, -c.sx);
         if b == TRANSPARENT || b == a {
@@ -153,9 +153,9 @@ impl View<'_> {
     // What the spot, of the paint a, becomes. It can be one corner at most: at a corner one of the cells beside the spot, and one of
     // those above and below it, has its paint.
     fn trimmed(&self, a: u32) -> u32
-        requires { (0 < a) × (a ≤ most) }
+        requires { (0 < a) × (a ≤ largest_paint) }
         ensures sees { Tells self.now result (λ s p. paint_of (trimmed_by s p corners (cell_of a))) }
-        ensures result_nonzero { (0 < result) × (result ≤ most) }
+        ensures result_nonzero { (0 < result) × (result ≤ largest_paint) }
     {
         let left = self.look(0, -1);
         let right = self.look(0, 1);
@@ -177,8 +177,8 @@ impl View<'_> {
 
 // One spot of the sheet.
 fn trim_cell(cells: &mut [i32], work: &[u32], at: Spot)
-    requires { Room cells.old work.now at }
-    ensures { (old : List ℤ) → Held old work.now at.w (end_of at) → Trimmed old at.h at.w (place_of at) cells.old → Trimmed old at.h at.w (place_of at + 1) cells.new }
+    requires { SpotFits cells.old work.now at }
+    ensures { (old : List ℤ) → OldRows old work.now at.w (row_end at) → Trimmed old at.h at.w (spot_place at) cells.old → Trimmed old at.h at.w (spot_place at + 1) cells.new }
 {
     let w = at.w;
     let x = at.x;
@@ -194,8 +194,8 @@ fn trim_cell(cells: &mut [i32], work: &[u32], at: Spot)
 
 // One row of the sheet.
 fn trim_row(cells: &mut [i32], work: &[u32], h: usize, w: usize, y: usize)
-    requires { (x : ℕ) → x < w → Room cells.old work.now (spot h w y x) }
-    ensures { (old : List ℤ) → Held old work.now w (y * w + w) → Trimmed old h w (y * w) cells.old → Trimmed old h w (y * w + w) cells.new }
+    requires { (x : ℕ) → x < w → SpotFits cells.old work.now (spot_at h w y x) }
+    ensures { (old : List ℤ) → OldRows old work.now w (y * w + w) → Trimmed old h w (y * w) cells.old → Trimmed old h w (y * w + w) cells.new }
 {
     for x in 0..w {
         trim_cell(cells, work, Spot { y, x, h, w });

@@ -5,7 +5,7 @@ use borrow.Author.Tests.{lt-ltb}
 use lib.Dec.{ltb}
 use Rattle.base.proofs.Counting.{or_left, or_right}
 use Rattle.grid.proofs.Places.{area}
-use Rattle.jaggies.proofs.Rows.{no_rows, row_end, row_room, rowed_more, all_rows, too_small}
+use Rattle.jaggies.proofs.Rows.{no_rows, row_inside, row_room, rowed_more, all_rows, too_small}
 use Rattle.jaggies.proofs.trim_sheet.Goals as goal
 
 pub returns-then-h-lt4 : goal.returns-then-h-lt4
@@ -19,12 +19,12 @@ loop-y-init c = no_rows _ _ _ _ c.requires.2
 
 pub overflow_mul-end : goal.overflow_mul-end
 overflow_mul-end c =
-    omega (arith, row_end c.loop-y.invariant c.loop-y-test.true, area c.args.h c.args.w (omega arith) (omega arith))
+    omega (arith, row_inside c.loop-y.invariant c.loop-y-test.true, area c.args.h c.args.w (omega arith) (omega arith))
 
 pub advance-requires : goal.advance-requires
 advance-requires c =
     let one : 1 ≤ c.args.h = omega arith in
-    omega (arith, row_end c.loop-y.invariant c.loop-y-test.true, mul-le-mul_right c.args.w one, c.requires)
+    omega (arith, row_inside c.loop-y.invariant c.loop-y-test.true, mul-le-mul_right c.args.w one, c.requires)
 
 pub trim_row-requires : goal.trim_row-requires
 trim_row-requires c =

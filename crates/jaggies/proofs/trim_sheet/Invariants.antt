@@ -1,4 +1,4 @@
--- `trim_sheet`: the rows before y are trimmed, and the last three of them are held as they were. Assumes nothing.
+-- `trim_sheet`: the rows before y are trimmed, and the last three of them stand in the work area as they were. Assumes nothing.
 use Rattle.jaggies.proofs.Rows.{Rowed}
 use Rattle.jaggies.proofs.trim_sheet.Given as goal
 

@@ -3,7 +3,7 @@ use Rattle.std.proofs.Common.{◌≡◌, ◌&&◌, pos, neg_ℤ, sym, ◌∙◌}
 use Rattle.rules.specs.Sheet.{sheet_of}
 use Rattle.rules.specs.Corners.{finds, around}
 use Rattle.grid.specs.Planes.{cell_of}
-use Rattle.jaggies.specs.Rows.{place_of}
+use Rattle.jaggies.specs.Rows.{spot_place}
 use Rattle.jaggies.proofs.Signs.{on, back}
 use Rattle.jaggies.proofs.Cuts.{on_yes, on_no}
 use Rattle.jaggies.proofs.View.around.Goals.{then-finds, else-finds, then-finds-2, else-finds-2, then-finds-3, else-finds-3, then-finds-4, else-finds-4}
@@ -12,7 +12,7 @@ use Rattle.jaggies.proofs.View.around.Goals as goal
 pub returns-then-finds-5 : goal.returns-then-finds-5
 unfolding around
 returns-then-finds-5 c old shown =
-    let found = finds (sheet_of old c.args.self.now.at.h c.args.self.now.at.w) (place_of c.args.self.now.at) in
+    let found = finds (sheet_of old c.args.self.now.at.h c.args.self.now.at.w) (spot_place c.args.self.now.at) in
     let b = cell_of c.args.b in
     let f1 = rw (back c.args.c.sy c.args.c.rows, back c.args.c.sx c.args.c.cols) at (c.finds.ensures old shown) in
     let f2 : c.if-finds.value ≡ (found (neg_ℤ c.args.c.sy) (neg_ℤ c.args.c.sx) b && found (neg_ℤ c.args.c.sy) (pos 0) b) = elim c.if-finds.branch [
@@ -36,7 +36,7 @@ returns-then-finds-5 c old shown =
 pub returns-else-finds-5 : goal.returns-else-finds-5
 unfolding around
 returns-else-finds-5 c old shown =
-    let found = finds (sheet_of old c.args.self.now.at.h c.args.self.now.at.w) (place_of c.args.self.now.at) in
+    let found = finds (sheet_of old c.args.self.now.at.h c.args.self.now.at.w) (spot_place c.args.self.now.at) in
     let b = cell_of c.args.b in
     let f1 = rw (back c.args.c.sy c.args.c.rows, back c.args.c.sx c.args.c.cols) at (c.finds.ensures old shown) in
     let f2 : c.if-finds.value ≡ (found (neg_ℤ c.args.c.sy) (neg_ℤ c.args.c.sx) b && found (neg_ℤ c.args.c.sy) (pos 0) b) = elim c.if-finds.branch [
