@@ -17,7 +17,7 @@ use Rattle.base.specs.Places.{table, any, count}
 use Rattle.base.proofs.Counting.{case, any_same, count_le, table_at, table-length, table_same}
 use Rattle.rules.specs.Grid.{close}
 use Rattle.rules.specs.Masks.{is_set}
-use Rattle.mask.specs.Lines.{bit_of, less, set_in, padded, next_count, in_row, Counted}
+use Rattle.mask.specs.Lines.{bit_of, less, set_in, count_with_margin, next_count, in_row, Counted}
 use Rattle.grid.proofs.Tiles.{next_row}
 use Rattle.mask.proofs.Windows.{window_law}
 
@@ -90,13 +90,13 @@ unfolding count set_in bit_of
 tally_sum row d e f = rw (add-one d) (omega arith)
 
 -- nothing, the counts of a row, and the last of them again: the row's counts with a margin
-pub padded-is : (t : ℕ → Bool) (r w sum : ℕ) (a b c : List ℕ) → a ≡ replicate r 0 → b ≡ table w (λ i. count i t) → sum ≡ count w t → c ≡ replicate (r + 1) sum →
-    a ++ (b ++ c) ≡ table (r + (w + (r + 1))) (padded r w t)
-unfolding padded count
-padded-is t r w sum a b c front row all end =
-    table_join r (w + (r + 1)) (padded r w t) 0 (front ∙ table_alike r 0 (padded r w t) (λ i l. upto (before i l)))
-    (table_join w (r + 1) (λ i. padded r w t (r + i)) 0 (row ∙ table_same w (λ i. count i t) (λ i. padded r w t (r + i)) 0 (λ i l. sym (upto (within i l))))
-    (end ∙ table_alike (r + 1) sum (λ i. padded r w t (r + (w + i))) (λ i l. upto (past i) ∙ sym all)))
+pub count_with_margin-is : (t : ℕ → Bool) (r w sum : ℕ) (a b c : List ℕ) → a ≡ replicate r 0 → b ≡ table w (λ i. count i t) → sum ≡ count w t → c ≡ replicate (r + 1) sum →
+    a ++ (b ++ c) ≡ table (r + (w + (r + 1))) (count_with_margin r w t)
+unfolding count_with_margin count
+count_with_margin-is t r w sum a b c front row all end =
+    table_join r (w + (r + 1)) (count_with_margin r w t) 0 (front ∙ table_alike r 0 (count_with_margin r w t) (λ i l. upto (before i l)))
+    (table_join w (r + 1) (λ i. count_with_margin r w t (r + i)) 0 (row ∙ table_same w (λ i. count i t) (λ i. count_with_margin r w t (r + i)) 0 (λ i l. sym (upto (within i l))))
+    (end ∙ table_alike (r + 1) sum (λ i. count_with_margin r w t (r + (w + i))) (λ i l. upto (past i) ∙ sym all)))
   where
     upto : {m n : ℕ} → m ≡ n → count m t ≡ count n t
     upto e = ap (λ (m : ℕ). count m t) e
@@ -126,8 +126,8 @@ ends {r} {w} k e j l = go (dec_le k w)
 
 -- the counts with a margin tell whether a place within k of j passes
 near-row : (t : ℕ → Bool) {r : ℕ} (k w : ℕ) → r ≡ min k w → (j : ℕ) → j < w →
-    less (padded r w t j) (padded r w t (2 * r + 1 + j)) ≡ cond (any w (λ i. t i && close k j i)) 1 0
-unfolding less padded
+    less (count_with_margin r w t j) (count_with_margin r w t (2 * r + 1 + j)) ≡ cond (any w (λ i. t i && close k j i)) 1 0
+unfolding less count_with_margin
 near-row t {r} k w e j l = let q = ends k e j l in rw (q.0, q.1) (ap (λ (b : Bool). cond b 1 0) (window_law t w k j))
 
 -- ---- counts down the columns
@@ -163,7 +163,7 @@ above_at rows done w y k x e l m =
 -- one row more, by its counts: `done` are the rows before it, and `line` the counts along the mask's row
 pub counted-more : (mask rows done next rest line lo hi : List ℕ) (w k r y len room along : ℕ) → r ≡ min k w → Counted mask w k y rows → y * w + w ≤ length rows →
     done ≡ take (y * w + w) rows → next ≡ table len (next_count (take room (drop (y * w) done)) lo hi) → len ≡ w → w ≤ room →
-    line ≡ table (r + (w + (r + 1))) (padded r w (set_in (take along (drop (y * w) mask)))) → w ≤ along →
+    line ≡ table (r + (w + (r + 1))) (count_with_margin r w (set_in (take along (drop (y * w) mask)))) → w ≤ along →
     ((j : ℕ) → j < w → get_or lo j 0 ≡ get_or line j 0) → ((j : ℕ) → j < w → get_or hi j 0 ≡ get_or line (2 * r + 1 + j) 0) →
     Counted mask w k (y + 1) (done ++ (next ++ rest))
 unfolding count in_row next_count set_in
@@ -176,8 +176,8 @@ counted-more mask rows done next rest line lo hi w k r y len room along e c held
     t : ℕ → Bool
     t i = set_in (take along (drop (y * w) mask)) i
 
-    on_line : (i : ℕ) → i < r + (w + (r + 1)) → get_or line i 0 ≡ padded r w t i
-    on_line i l = ap (λ (v : List ℕ). get_or v i 0) pad ∙ table_at _ (padded r w t) 0 i l
+    on_line : (i : ℕ) → i < r + (w + (r + 1)) → get_or line i 0 ≡ count_with_margin r w t i
+    on_line i l = ap (λ (v : List ℕ). get_or v i 0) pad ∙ table_at _ (count_with_margin r w t) 0 i l
 
     near : (x : ℕ) → x < w → less (get_or lo x 0) (get_or hi x 0) ≡ cond (in_row mask w k x y) 1 0
     near x m =

@@ -19,8 +19,8 @@ unfoldable pub set_in : List ℕ → ℕ → Bool
 set_in mask i = is_set (get_or mask i 0)
 
 -- how many of the first w places that pass t stand before place i - r
-unfoldable pub padded : ℕ → ℕ → (ℕ → Bool) → ℕ → ℕ
-padded r w t i = count (min (i - r) w) t
+unfoldable pub count_with_margin : ℕ → ℕ → (ℕ → Bool) → ℕ → ℕ
+count_with_margin r w t i = count (min (i - r) w) t
 
 -- what stands above at j, and 1 more if what stands in hi is more than what stands in lo
 unfoldable pub next_count : List ℕ → List ℕ → List ℕ → ℕ → ℕ

@@ -4,7 +4,7 @@ ghost use Rattle.std.specs.Prelude.{◌≡◌, ℕ, ◌+◌, ◌-◌, ◌*◌, �
 ghost use Rattle.base.specs.Places.{table, count};
 ghost use Rattle.base.specs.Outputs.{filled};
 ghost use Rattle.rules.specs.Masks.{is_set, reach_of, dilated_at, dilation_answer, dilation_out};
-ghost use Rattle.mask.specs.Lines.{bit_of, less, set_in, padded, next_count, grows, Counted};
+ghost use Rattle.mask.specs.Lines.{bit_of, less, set_in, count_with_margin, next_count, grows, Counted};
 
 use base::Refusal;
 use refusals::grid_refusal;
@@ -60,7 +60,7 @@ fn tally(row: &[u8], counts: &mut [u32]) -> u32
 // The same with a margin of r more numbers on either side, where the count stands still.
 fn tally_wide(row: &[u8], r: usize, line: &mut [u32])
     requires { (length row.now ≤ 512) × (length line.old ≡ r + (length row.now + (r + 1))) }
-    ensures { line.new ≡ table (r + (length row.now + (r + 1))) (padded r (length row.now) (set_in row.now)) }
+    ensures { line.new ≡ table (r + (length row.now + (r + 1))) (count_with_margin r (length row.now) (set_in row.now)) }
 {
     let (before, rest) = line.split_at_mut(r);
     let (counts, after) = rest.split_at_mut(row.len());
