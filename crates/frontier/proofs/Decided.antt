@@ -1,11 +1,11 @@
 -- Repainting the logged groups leaves the planes as absorbing needs them. Assumes nothing.
-use Prim.Native.Nat.{ℕ, suc, ◌-◌, ◌≤◌, ◌<◌}
+use Prim.Native.Nat.{ℕ, suc, ◌≤◌, ◌<◌}
 use mathlib.Core.Path.{◌≡◌, sym, ◌∙◌}
-use mathlib.Core.Logic.{⊎_elim}
+use mathlib.Core.Logic.{inl, inr, ⊎_elim}
 use mathlib.Core.Bool.{true}
 use mathlib.Core.List.{List}
 use native.Mathlib.Omega.{arith}
-use Rattle.base.proofs.Counting.{case, clash, count_mono}
+use Rattle.base.proofs.Counting.{count_mono}
 use Rattle.grid.specs.declared.Grid.{Grid}
 use Rattle.grid.specs.Planes.{plane}
 use Rattle.verdicts.specs.Steps.{area_of}
@@ -13,9 +13,10 @@ use Rattle.verdicts.specs.Groups.{Group, GroupedSheet}
 use Rattle.verdicts.specs.Judging.{large_of}
 use Rattle.frontier.specs.Judging.{idle}
 use Rattle.frontier.specs.Growing.{Listed, Repainted, Growth, Decided}
-use Rattle.verdicts.proofs.Keeping.{group-alike}
+use Rattle.verdicts.proofs.Keeping.{group-alike, sheet_alike}
 use Rattle.frontier.proofs.Repaints.{repainted_alike}
-use Rattle.frontier.proofs.Gains.{idle_record, record_idle, big_same, big_one}
+use Rattle.frontier.proofs.Idle.{idle_was}
+use Rattle.frontier.proofs.Gains.{big_same, big_one}
 
 module _ {grid : Grid} {from mid : ℕ} {a b : List ℕ} (d : Decided grid from mid a) (r : Repainted (area_of grid) (Listed (area_of grid) a from mid) a b) where
   abbrev n : ℕ
@@ -55,30 +56,7 @@ module _ {grid : Grid} {from mid : ℕ} {a b : List ℕ} (d : Decided grid from 
       (omega (arith, q.0), omega (arith, q.1))
 
   sheet_still : GroupedSheet grid b
-  sheet_still =
-      let o = d.sheet in
-      record {
-        rows = o.rows;
-        cols = o.cols;
-        room = rw r.len o.room;
-        paint = λ x l. ⊎_elim (λ y. rw y.0 (o.paint x l)) (λ y. (paint_new x y.0 l y.1 y.2).1) (r.each x l);
-        shown = λ x l z. ⊎_elim (λ y. rw y.0 (o.shown x l (λ e. z (label x l ∙ e)))) (λ y. (paint_new x y.0 l y.1 y.2).0) (r.each x l);
-        large = λ x l z. ⊎_elim (λ y. rw y.0 (o.large x l (λ e. z (y.1 ∙ e)))) (λ y. (paint_new x y.0 l y.1 y.2).0) (r.each x l);
-        groups = λ x t l e. group-alike (repainted_alike r) t (o.groups x t l (sym (label x l) ∙ e));
-      }
-
-  idle_was : (x : ℕ) → x < n → idle n b x ≡ true → idle n a x ≡ true
-  idle_was x l y =
-      let i = idle_record n b x y in
-      let e = label x l in
-      let p : 0 < plane n 1 a x = rw e at i.label in
-      let m = number x (plane n 1 a x - 1) l (omega arith) in
-      let z : plane n 6 b (plane n 1 a x - 1) < 2 = rw e at i.number in
-      record_idle n a x (record {
-        label = p;
-        little = case (large_of n a x) (λ t. clash (old_big x l t) i.little) (λ t. t);
-        number = omega arith;
-      })
+  sheet_still = sheet_alike d.sheet r.len (repainted_alike r) (λ x l. ⊎_elim (λ y. inl (y.0, (λ z e. z (y.1 ∙ e)))) (λ y. inr (paint_new x y.0 l y.1 y.2)) (r.each x l))
 
   -- absorbing may begin
   pub decided_growth : Growth grid mid b
@@ -87,7 +65,7 @@ module _ {grid : Grid} {from mid : ℕ} {a b : List ℕ} (d : Decided grid from 
     whole = λ x y l m z e. whole_still x y l m (rw (label x l) at z) (sym (label x l) ∙ e ∙ label y m);
     done = λ x t l e z. let e' : plane n 1 a x ≡ suc t = sym (label x l) ∙ e in
         ⊎_elim (old_big x l) (repainted_big x t l e') (d.done x t l e' (rw (number x t l e') at z));
-    room = let q = count_mono n (idle n b) (idle n a) idle_was in omega (arith, d.room);
+    room = let q = count_mono n (idle n b) (idle n a) (λ x l. idle_was n a b x (label x l) (old_big x l) (λ t e z. rw (number x t l e) at z)) in omega (arith, d.room);
   }
 
   pub decided_groups : (i : ℕ) → from ≤ i → i < mid → Group n b (plane n 7 b i)

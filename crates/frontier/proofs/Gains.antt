@@ -2,15 +2,15 @@
 use Prim.Native.Nat.{ℕ, suc, ◌+◌, ◌-◌, ◌*◌, ◌≤◌, ◌<◌}
 use mathlib.Core.Path.{◌≡◌, refl, sym, ap, ◌∙◌}
 use mathlib.Core.Logic.{◌⊎◌, inl, inr, ⊎_elim}
-use mathlib.Core.Bool.{Bool, true, false, not, ◌&&◌, ◌||◌}
+use mathlib.Core.Bool.{Bool, true, false, not, ◌||◌}
 use mathlib.Core.List.{List}
 use native.Mathlib.Decide.{ℕ_discrete, dec_lt}
 use native.Mathlib.Omega.{arith}
 use borrow.Author.Tests.{ne_eqb}
-use lib.Dec.{eqb, ltb}
+use lib.Dec.{eqb}
 use lib.ListN.{length, set, length-set}
 use Rattle.std.specs.Prelude.{Some}
-use Rattle.base.proofs.Counting.{case, clash, both, left, right, not_true, not_false, leb_yes, yes_leb, yes_eqb, or_left, or_right, count_some}
+use Rattle.base.proofs.Counting.{case, clash, yes_eqb, or_left, or_right, count_some}
 use Rattle.grid.specs.declared.Grid.{Grid}
 use Rattle.grid.specs.Planes.{plane}
 use Rattle.grid.specs.Steps.{steps_of}
@@ -19,37 +19,15 @@ use Rattle.grid.proofs.Planes.{plane-same, plane_else, plane_other}
 use Rattle.verdicts.specs.Steps.{area_of}
 use Rattle.verdicts.proofs.Votes.{Reached, reached_more, more_reached, reached_all, all_reached}
 use Rattle.frontier.specs.Growing.{Logged, Matches, Growth, Cause, Gained}
+use Rattle.frontier.proofs.Idle.{idle_record, record_idle, idle_was}
 use Rattle.frontier.proofs.Stages.{big_some}
 use Rattle.frontier.proofs.Growth.{logged_start, logged_step, room_step}
 use Rattle.verdicts.specs.Groups.{GroupedSheet}
 use Rattle.verdicts.specs.Judging.{large_of}
 use Rattle.frontier.specs.Judging.{idle, RegionSet}
-use Rattle.verdicts.proofs.Keeping.{Alike, group-alike}
+use Rattle.verdicts.proofs.Keeping.{Alike, sheet_alike}
 
 -- ---- the tests
-
--- idle, in words
-pub record Idle (n : ℕ) (work : List ℕ) (x : ℕ) : Type 0 where
-  pub label : 0 < plane n 1 work x
-  pub little : large_of n work x ≡ false
-  pub number : plane n 6 work (plane n 1 work x - 1) < 2
-
-pub idle_record : (n : ℕ) (work : List ℕ) (x : ℕ) → idle n work x ≡ true → Idle n work x
-unfolding idle
-idle_record n work x y =
-    let p = ltb 0 (plane n 1 work x) in
-    let q = not (large_of n work x) in
-    let o = ltb (plane n 6 work (plane n 1 work x - 1)) 2 in
-    record {
-      label = leb_yes {m = 1} {n = plane n 1 work x} (left p q (left (p && q) o y));
-      little = not_true (right p q (left (p && q) o y));
-      number = leb_yes {m = suc (plane n 6 work (plane n 1 work x - 1))} {n = 2} (right (p && q) o y);
-    }
-
-pub record_idle : (n : ℕ) (work : List ℕ) (x : ℕ) → Idle n work x → idle n work x ≡ true
-unfolding idle
-record_idle n work x u =
-    both (both (yes_leb {m = 1} {n = plane n 1 work x} u.label) (not_false u.little)) (yes_leb {m = suc (plane n 6 work (plane n 1 work x - 1))} {n = 2} u.number)
 
 pub big_same : (n : ℕ) (a b : List ℕ) (q : ℕ) → plane n 5 b q ≡ plane n 5 a q → large_of n b q ≡ large_of n a q
 unfolding large_of
@@ -261,37 +239,18 @@ module _ (grid : Grid) (end : ℕ) (a : List ℕ) (g : Growth grid end a) (q at 
     number : (x t : ℕ) → x < n → plane n 1 a x ≡ suc t → plane n 6 c t ≡ plane n 6 a t
     number x t l e = off 6 t (λ z. absurd (omega arith)) (λ z. absurd (omega arith)) (g.sheet.groups x t l e).label
 
-    idle_was : (x : ℕ) → x < n → idle n c x ≡ true → idle n a x ≡ true
-    idle_was x l y =
-        let u = idle_record n c x y in
-        let e = label x l in
-        let p : 0 < plane n 1 a x = rw e at u.label in
-        let m = number x (plane n 1 a x - 1) l (omega arith) in
-        let z : plane n 6 c (plane n 1 a x - 1) < 2 = rw e at u.number in
-        record_idle n a x (record {
-          label = p;
-          little = case (large_of n a x) (λ t. clash (big_now x l ∙ or_left (eqb (plane n 1 a x) (suc at)) t) u.little) (λ t. t);
-          number = omega arith;
-        })
+    was_idle : (x : ℕ) → x < n → idle n c x ≡ true → idle n a x ≡ true
+    was_idle x l = idle_was n a c x (label x l) (λ t. big_now x l ∙ or_left (eqb (plane n 1 a x) (suc at)) t) (λ t e z. rw (number x t l e) at z)
 
     idle_not : idle n c q ≡ false
     idle_not = case (idle n c q) (λ y. clash (big_one n c q (mine q lq eq)) (idle_record n c q y).little) (λ y. y)
 
     sheet_grown : GroupedSheet grid c
     sheet_grown =
-        let d = g.sheet in
-        record {
-          rows = d.rows;
-          cols = d.cols;
-          room = rw (length-set b i at ∙ s.len) d.room;
-          paint = λ x l. rw (paint x l) (d.paint x l);
-          shown = λ x l z. rw (paint x l) (d.shown x l (λ e. z (label x l ∙ e)));
-          large = λ x l z. rw (paint x l) (elim (ℕ_discrete (plane n 1 a x) (suc at)) [
-            | yes e ↦ d.shown x l (λ y. absurd (omega arith))
-            | no f ↦ d.large x l (λ y. z (other x l f ∙ y))
-          ]);
-          groups = λ x t l e. group-alike alike t (d.groups x t l (sym (label x l) ∙ e));
-        }
+        sheet_alike g.sheet (length-set b i at ∙ s.len) alike (λ x l. elim (ℕ_discrete (plane n 1 a x) (suc at)) [
+          | yes e ↦ inr (rw (paint x l) (g.sheet.shown x l (λ y. absurd (omega arith)), g.sheet.paint x l))
+          | no d ↦ inl (paint x l, (λ z y. z (other x l d ∙ y)))
+        ])
 
     growth_grown : Growth grid (suc end) c
     growth_grown = record {
@@ -301,7 +260,7 @@ module _ (grid : Grid) (end : ℕ) (a : List ℕ) (g : Growth grid end a) (q at 
           big_now x l ∙ (rw (f, e')) ∙ sym (big_now y m);
       done = λ x t l e z. let e' : plane n 1 a x ≡ suc t = sym (label x l) ∙ e in
           big_now x l ∙ or_left (eqb (plane n 1 a x) (suc at)) (g.done x t l e' (rw (number x t l e') at z));
-      room = (room_step n (plane n 1 a) (large_of n a) (idle n a) (idle n c) end q g.room idle_was lq idle_q idle_not).1;
+      room = (room_step n (plane n 1 a) (large_of n a) (idle n a) (idle n c) end q g.room was_idle lq idle_q idle_not).1;
     }
 
     -- it alone is gained

@@ -3,6 +3,7 @@ pub mod Growth
 pub mod Turns
 pub mod Setting
 pub mod Notes
+pub mod Idle
 pub mod Stages
 pub mod Filing
 pub mod Progress

@@ -2,7 +2,7 @@
 use Prim.Native.Nat.{ℕ, suc, ◌+◌, ◌-◌, ◌≤◌, ◌<◌}
 use mathlib.Core.Path.{◌≡◌, sym, ap, ◌∙◌}
 use mathlib.Core.Logic.{inl, inr, ⊎_elim}
-use mathlib.Core.Bool.{true, false, not, ◌&&◌}
+use mathlib.Core.Bool.{true, false, not}
 use mathlib.Core.List.{List}
 use native.Mathlib.Decide.{ℕ_discrete}
 use native.Mathlib.Omega.{arith}
@@ -10,7 +10,7 @@ use borrow.Author.Tests.{ne_eqb}
 use lib.Dec.{eqb, ltb}
 use lib.IntN.{ℤ}
 use Rattle.base.specs.Places.{count}
-use Rattle.base.proofs.Counting.{case, clash, both, left, right, not_true, not_false, leb_yes, yes_leb, no_leb, table_at, count_mono, count_less, count_some}
+use Rattle.base.proofs.Counting.{case, clash, left, leb_yes, no_leb, table_at, count_mono, count_less, count_some}
 use Rattle.rules.specs.Regions.{opaque}
 use Rattle.rules.specs.Pass.{Rule, marked, is_small, small, large}
 use Rattle.rules.proofs.Roots.{opaque-below}
@@ -21,7 +21,8 @@ use Rattle.verdicts.specs.Steps.{area_of}
 use Rattle.verdicts.specs.Judging.{state_of, large_of, Sound}
 use Rattle.verdicts.specs.Groups.{Group, GroupedSheet}
 use Rattle.frontier.specs.Judging.{Noted, idle, Stage}
-use Rattle.verdicts.proofs.Keeping.{Alike, group-alike}
+use Rattle.verdicts.proofs.Keeping.{Alike, sheet_alike}
+use Rattle.frontier.proofs.Idle.{idle_record, record_idle, idle_was}
 
 -- a place is frozen where plane 4 is not 0
 pub frozen_is : (n : ℕ) (work : List ℕ) (x : ℕ) → x < n → marked (state_of n work).frozen x ≡ not (eqb (plane n 4 work x) 0)
@@ -47,11 +48,9 @@ module _ {rule : Rule} {grid : Grid} {k at end : ℕ} {a : List ℕ} (st : Stage
   lead-at = g.places (end_of n a at) (omega arith) g.some
 
   idle-lead : plane n 6 a at ≡ 0 → plane n 5 a lead ≡ 0 → idle n a lead ≡ true
-  unfolding idle
   idle-lead z y =
       let e : plane n 1 a lead - 1 ≡ at = omega (arith, lead-at.1) in
-      let f : plane n 6 a (plane n 1 a lead - 1) ≡ 0 = ap (plane n 6 a) e ∙ z in
-      both (both (yes_leb {m = 1} {n = plane n 1 a lead} (omega (arith, lead-at.1))) (not_false (zero_big n a lead y))) (yes_leb {m = suc (plane n 6 a (plane n 1 a lead - 1))} {n = 2} (omega arith))
+      record_idle n a lead (record { label = omega (arith, lead-at.1); little = zero_big n a lead y; number = omega (arith, ap (plane n 6 a) e, z) })
 
   -- the log has room for a group that may be decided
   pub stage_room : (end ≤ n) × (plane n 6 a at ≡ 0 → plane n 5 a lead ≡ 0 → end < n)
@@ -71,17 +70,7 @@ module _ {rule : Rule} {grid : Grid} {k at end : ℕ} {a : List ℕ} (st : Stage
     alike = record { label = label_same; order = λ q l. u.same 2 q (omega arith) l; ends = λ q l. u.same 3 q (omega arith) l }
 
     sheet_noted : GroupedSheet grid b
-    sheet_noted =
-        let d = st.sheet in
-        record {
-          rows = d.rows;
-          cols = d.cols;
-          room = rw u.len d.room;
-          paint = λ q l. rw (u.same 0 q (omega arith) l) (d.paint q l);
-          shown = λ q l z. rw (u.same 0 q (omega arith) l) (d.shown q l (λ e. z (label_same q l ∙ e)));
-          large = λ q l z. rw (u.same 0 q (omega arith) l) (d.large q l (λ e. clash (big_some n b q z) (u.large q l ∙ zero_big n a q e)));
-          groups = λ q t l e. group-alike alike t (d.groups q t l (sym (label_same q l) ∙ e));
-        }
+    sheet_noted = sheet_alike st.sheet u.len alike (λ q l. inl (u.same 0 q (omega arith) l, (λ z e. clash (big_some n b q z) (u.large q l ∙ zero_big n a q e))))
 
     -- a group without a number now had none
     was_free : plane n 6 b at ≡ 0 → plane n 6 a at ≡ 0
@@ -144,48 +133,27 @@ module _ {rule : Rule} {grid : Grid} {k at end : ℕ} {a : List ℕ} (st : Stage
         (λ m. m.1 (let i : t ≡ at = (let v : t + 2 ≡ at + 2 = sym e ∙ m.0 in omega arith) in rw i at z)) (u.marks q l)
 
     -- what is idle now was so
-    idle_was : (x : ℕ) → x < n → idle n b x ≡ true → idle n a x ≡ true
-    unfolding idle
-    idle_was x l y =
-        let p = ltb 0 (plane n 1 b x) in
-        let q = not (large_of n b x) in
-        let o = ltb (plane n 6 b (plane n 1 b x - 1)) 2 in
-        let p1 : 0 < plane n 1 b x = leb_yes {m = 1} {n = plane n 1 b x} (left p q (left (p && q) o y)) in
-        let big : large_of n b x ≡ false = not_true (right p q (left (p && q) o y)) in
-        let lo : plane n 6 b (plane n 1 b x - 1) < 2 = leb_yes {m = suc (plane n 6 b (plane n 1 b x - 1))} {n = 2} (right (p && q) o y) in
-        let e = label_same x l in
-        let t = plane n 1 b x - 1 in
-        let tl : plane n 1 a x ≡ suc t = omega arith in
-        let lt : t < n = (st.sheet.groups x t l tl).label in
-        let num : plane n 6 a t < 2 = elim (ℕ_discrete t at) [
-          | no z ↦ (let v = u.numbers t lt z in omega arith)
-          | yes z ↦ (elim (ℕ_discrete (plane n 6 a at) 0) [
-            | yes v ↦ (let v' : plane n 6 a t ≡ 0 = ap (plane n 6 a) z ∙ v in omega arith)
-            | no v ↦ (let v' : plane n 6 b t ≡ plane n 6 a t = ap (plane n 6 b) z ∙ u.done v ∙ ap (plane n 6 a) (sym z) in omega arith)
-          ])
-        ] in
-        let num' : plane n 6 a (plane n 1 a x - 1) < 2 = rw (← e) num in
-        both (both (yes_leb {m = 1} {n = plane n 1 a x} (omega arith)) (not_false (sym (u.large x l) ∙ big))) (yes_leb {m = suc (plane n 6 a (plane n 1 a x - 1))} {n = 2} num')
+    was_idle : (x : ℕ) → x < n → idle n b x ≡ true → idle n a x ≡ true
+    was_idle x l = idle_was n a b x (label_same x l) (λ y. u.large x l ∙ y) (λ t e less. elim (ℕ_discrete t at) [
+      | no z ↦ rw (u.numbers t (st.sheet.groups x t l e).label z) at less
+      | yes z ↦ (elim (ℕ_discrete (plane n 6 a at) 0) [ yes v ↦ rw (z, v) (omega arith) | no v ↦ rw z (rw (z, u.done v) at less) ])
+    ])
 
     idle_not : 2 ≤ plane n 6 b at → idle n b lead ≡ false
-    unfolding idle
     idle_not h =
         let e : plane n 1 b lead - 1 ≡ at = omega (arith, label_same lead lead-at.0, lead-at.1) in
-        let f : plane n 6 b (plane n 1 b lead - 1) ≡ plane n 6 b at = ap (plane n 6 b) e in
-        case (ltb 0 (plane n 1 b lead) && not (large_of n b lead) && ltb (plane n 6 b (plane n 1 b lead - 1)) 2)
-        (λ y. let v = leb_yes {m = suc (plane n 6 b (plane n 1 b lead - 1))} {n = 2} (right (ltb 0 (plane n 1 b lead) && not (large_of n b lead)) (ltb (plane n 6 b (plane n 1 b lead - 1)) 2) y) in absurd (omega arith))
-        (λ z. z)
+        case (idle n b lead) (λ y. absurd (omega (arith, ap (plane n 6 b) e, (idle_record n b lead y).number))) (λ z. z)
 
     room_still : r + count n (idle n b) ≤ n
     room_still =
-        let m = count_mono n (idle n b) (idle n a) idle_was in
+        let m = count_mono n (idle n b) (idle n a) was_idle in
         elim (ℕ_discrete (plane n 6 a at) 0) [
           | no z ↦ (let e = u.unlogged (inl z) in omega (arith, st.room))
           | yes f ↦ case (ltb (plane n 6 b at) 2)
               (λ y. let e = u.unlogged (inr (leb_yes {m = suc (plane n 6 b at)} {n = 2} y)) in omega (arith, st.room))
               (λ z. let two : 2 ≤ plane n 6 b at = (let v = no_leb {m = suc (plane n 6 b at)} {n = 2} z in omega arith) in
               let e = (u.logged f two).0 in
-              let c = count_less n (idle n b) (idle n a) idle_was lead lead-at.0 (idle_not two) (idle-lead f (u.little f (λ o. omega arith))) in
+              let c = count_less n (idle n b) (idle n a) was_idle lead lead-at.0 (idle_not two) (idle-lead f (u.little f (λ o. omega arith))) in
               omega (arith, st.room))
         ]
 

@@ -1,8 +1,10 @@
 -- What a poll leaves of the sheet. Assumes nothing.
 use Prim.Native.Nat.{ℕ, zero, suc, ◌≤◌, ◌<◌}
 use mathlib.Core.Path.{◌≡◌, refl, sym, ap, ◌∙◌}
+use mathlib.Core.Logic.{◌⊎◌, inl, ⊎_elim}
 use mathlib.Core.List.{List}
 use native.Mathlib.Omega.{arith}
+use lib.ListN.{length}
 use Rattle.grid.specs.declared.Grid.{Grid}
 use Rattle.grid.specs.Planes.{plane, end_of}
 use Rattle.grid.proofs.Places.{area}
@@ -57,16 +59,19 @@ kept_alike u = record {
   ends = λ q l. u.same 3 q (λ z. absurd (omega arith)) l;
 }
 
+-- a sheet whose groups stay is one still, if each place has the paint it had and is large only if it was, or has the paint of an index
+pub sheet_alike : {grid : Grid} {a b : List ℕ} → GroupedSheet grid a → length b ≡ length a → Alike (area_of grid) a b →
+    ((q : ℕ) → q < area_of grid → ((plane (area_of grid) 0 b q ≡ plane (area_of grid) 0 a q) × ((plane (area_of grid) 5 b q ≡ 0 → ⊥) → plane (area_of grid) 5 a q ≡ 0 → ⊥)) ⊎ ((1 ≤ plane (area_of grid) 0 b q) × (plane (area_of grid) 0 b q ≤ 256))) →
+    GroupedSheet grid b
+sheet_alike d len u each = record {
+  rows = d.rows;
+  cols = d.cols;
+  room = rw len d.room;
+  paint = λ q l. ⊎_elim (λ y. rw y.0 (d.paint q l)) (λ y. y.1) (each q l);
+  shown = λ q l z. ⊎_elim (λ y. rw y.0 (d.shown q l (λ e. z (u.label q l ∙ e)))) (λ y. y.0) (each q l);
+  large = λ q l z. ⊎_elim (λ y. rw y.0 (d.large q l (y.1 z))) (λ y. y.0) (each q l);
+  groups = λ q at l e. group-alike u at (d.groups q at l (sym (u.label q l) ∙ e));
+}
+
 pub sheet_polled : {grid : Grid} {m : ℕ} {A : ℕ → Type 0} {a b counts : List ℕ} → (m ≡ 0 → ⊥) → Polled (area_of grid) m A a b counts → GroupedSheet grid a → GroupedSheet grid b
-sheet_polled {grid} {b = b} some u d =
-    let k = u.kept in
-    let paint : (q : ℕ) → q < area_of grid → _ = (λ q l. k.same 0 q (λ z. absurd (omega arith)) l) in
-    record {
-      rows = d.rows;
-      cols = d.cols;
-      room = rw k.len d.room;
-      paint = λ q l. rw (paint q l) (d.paint q l);
-      shown = λ q l z. rw (paint q l) (d.shown q l (λ e. z (k.same 1 q (λ z. absurd (omega arith)) l ∙ e)));
-      large = λ q l z. rw (paint q l) (d.large q l (large_was some u q l z));
-      groups = λ q at l e. group-alike (kept_alike k) at (d.groups q at l (sym (k.same 1 q (λ z. absurd (omega arith)) l) ∙ e));
-    }
+sheet_polled some u d = let k = u.kept in sheet_alike d k.len (kept_alike k) (λ q l. inl (k.same 0 q (λ z. absurd (omega arith)) l, large_was some u q l))
