@@ -5,6 +5,7 @@ pub mod Setting
 pub mod Notes
 pub mod Idle
 pub mod Stages
+pub mod Starts
 pub mod Filing
 pub mod Progress
 pub mod Repaints

@@ -15,7 +15,7 @@ use Rattle.rules.specs.Regions.{at, here, Symmetric}
 use Rattle.rules.specs.Pass.{Rule, State, Verdict, stay, merge, freeze, large, painted, merges, fates, fate, pass, repaints}
 use Rattle.rules.proofs.Roots.{opaque-below}
 use Rattle.rules.proofs.Passes.{large-opaque, not_both, fate-at, cell-at, repainted, repaints-below, repainted_small, unpainted_kept}
-use Rattle.rules.proofs.Groups.{Ready, takes, Grown}
+use Rattle.rules.proofs.Groups.{takes, Grown}
 use Rattle.grid.specs.declared.Grid.{Grid}
 use Rattle.grid.specs.Planes.{plane, paint_of, cell_of, cells_of}
 use Rattle.grid.proofs.Planes.{cells_at, cells_paint}
@@ -23,8 +23,8 @@ use Rattle.verdicts.specs.Steps.{area_of}
 use Rattle.verdicts.specs.Judging.{state_of, fate_number, large_of}
 use Rattle.frontier.specs.Judging.{Chosen, Stage, Met}
 use Rattle.frontier.proofs.Growth.{merges-number, Growing, growing_start, absorbed_grows, growing_end}
-use Rattle.frontier.specs.Growing.{Logged, Listed, MatchesLogged, Repainted, Gained, Decided, Grew}
-use Rattle.frontier.proofs.Progress.{sound_ready}
+use Rattle.frontier.specs.Growing.{Logged, Listed, LargeAsWhole, MatchesLogged, Repainted, Gained, Decided, Grew}
+use Rattle.frontier.proofs.Starts.{in_rule, of_rule, stage_ready}
 use Rattle.frontier.proofs.Repaints.{repainted_alike}
 use Rattle.frontier.proofs.Gains.{big_same, logged_trans, gained_old, gained_alike}
 use Rattle.frontier.proofs.Decided.{repainted_big, old_big, whole_still, log_still}
@@ -41,33 +41,21 @@ module _ {rule : Rule} {grid : Grid} {k : ℕ} {met : ℕ → Type 0} {a b : Lis
   abbrev n : ℕ
   n = area_of grid
 
-  abbrev size : rule.places ≡ n
-  size = st.ruled.size
-
   abbrev symm : Symmetric rule.adj
   symm = st.ruled.symm
 
   abbrev s : State
   s = state_of n a
 
-  ready : Ready rule s (plane n 1 a) (large_of n a) (large rule (cells_of n a))
-  ready = sound_ready rule symm n size a st.sound
-
   abbrev len : length s.cells ≡ rule.places
-  len = ready.grouped.size
-
-  to-rule : (x : ℕ) → x < n → x < rule.places
-  to-rule x l = rw size l
-
-  of_rule : (x : ℕ) → x < rule.places → x < n
-  of_rule x l = rw (← size) l
+  len = (stage_ready st).grouped.size
 
   label_b : (x : ℕ) → x < n → plane n 1 b x ≡ plane n 1 a x
   label_b x l = u.same 1 x (omega arith) l
 
   repaints-is : (x : ℕ) → x < n → 0 < plane n 1 a x → repaints rule s x ≡ leb 2 (cond (eqb (plane n 6 a (plane n 1 a x - 1)) 0) (plane n 6 b (plane n 1 a x - 1)) 0)
   unfolding repaints
-  repaints-is x l z = merges-number (fate (fates rule s) x) ∙ ap (leb 2) (ends x (to-rule x l) z)
+  repaints-is x l z = merges-number (fate (fates rule s) x) ∙ ap (leb 2) (ends x (in_rule st x l) z)
 
   -- a chosen group is repainted
   pub chosen_repaints : (x l : ℕ) → x < n → plane n 1 a x ≡ suc l → Chosen n a b l → repaints rule s x ≡ true
@@ -78,8 +66,8 @@ module _ {rule : Rule} {grid : Grid} {k : ℕ} {met : ℕ → Type 0} {a b : Lis
   -- and no other is
   pub repaints_chosen : (x : ℕ) → repaints rule s x ≡ true → (x < n) × (l : ℕ) × (plane n 1 a x ≡ suc l) × Chosen n a b l
   repaints_chosen x e =
-      let b' = of_rule x (repaints-below rule symm s len x e) in
-      let z : 0 < plane n 1 a x = (ready.grouped.shown x (to-rule x b')).0 (repainted rule symm s len x e).was in
+      let b' = of_rule st x (repaints-below rule symm s len x e) in
+      let z : 0 < plane n 1 a x = ((stage_ready st).grouped.shown x (in_rule st x b')).0 (repainted rule symm s len x e).was in
       let l = plane n 1 a x - 1 in
       let lab : plane n 1 a x ≡ suc l = omega arith in
       let t : leb 2 (cond (eqb (plane n 6 a l) 0) (plane n 6 b l) 0) ≡ true = sym (repaints-is x b' z) ∙ e in
@@ -95,7 +83,7 @@ module _ {rule : Rule} {grid : Grid} {k : ℕ} {met : ℕ → Type 0} {a b : Lis
   paint_told : (x l : ℕ) → x < n → plane n 1 a x ≡ suc l → Chosen n a b l → (at (pass rule s).cells x ≡ cell_of (plane n 6 b l - 1)) × (paint_of (at (pass rule s).cells x) + 1 ≡ plane n 6 b l)
   unfolding repaints
   paint_told x l m e c =
-      let lx = to-rule x m in
+      let lx = in_rule st x m in
       let k1 : plane n 1 a x - 1 ≡ l = omega arith in
       let v = fate (fates rule s) x in
       let t = painted-number v (at s.cells x) (chosen_repaints x l m e c) in
@@ -108,13 +96,13 @@ module _ {rule : Rule} {grid : Grid} {k : ℕ} {met : ℕ → Type 0} {a b : Lis
   unfolding state_of
   number_known x l m e c =
       let w = repainted rule symm s len x (chosen_repaints x l m e c) in
-      let ly = of_rule w.from (opaque-below rule.places rule.adj s.cells len w.from (large-opaque rule symm s.cells len w.from w.big)) in
+      let ly = of_rule st w.from (opaque-below rule.places rule.adj s.cells len w.from (large-opaque rule symm s.cells len w.from w.big)) in
       let is : paint_of (at (pass rule s).cells x) ≡ plane n 0 b w.from = ap paint_of (w.takes x (here w.was)) ∙ cells_paint n a w.from ly ∙ sym (u.same 0 w.from (omega arith) ly) in
       omega (arith, (paint_told x l m e c).1, u.stage.known.below w.from ly)
 
-  whole_b : (x y : ℕ) → x < n → y < n → 0 < plane n 1 b x → plane n 1 b x ≡ plane n 1 b y → large_of n b x ≡ large_of n b y
+  whole_b : LargeAsWhole n b
   whole_b x y l m z e =
-      (growing_start rule symm (state_of n b) (plane n 1 b) (large_of n b) (large rule (cells_of n b)) (sound_ready rule symm n size b u.stage.sound)).whole x y (to-rule x l) (to-rule y m) z e
+      (growing_start rule symm (state_of n b) (plane n 1 b) (large_of n b) (large rule (cells_of n b)) (stage_ready u.stage)).whole x y (in_rule st x l) (in_rule st y m) z e
 
   -- what grow asks, if what was repainted before this pass is large
   pub met_decided : ((x t : ℕ) → x < n → plane n 1 a x ≡ suc t → 2 ≤ plane n 6 a t → large_of n a x ≡ true) → Decided grid from mid b
@@ -127,7 +115,7 @@ module _ {rule : Rule} {grid : Grid} {k : ℕ} {met : ℕ → Type 0} {a b : Lis
         let k1 : plane n 1 a x - 1 ≡ t = omega arith in
         elim (ℕ_discrete (plane n 6 a t) 0) [
           | yes f ↦ inr (u.log.all t (record { place = x; bound = l; label = ea; free = f; number = z }))
-          | no d ↦ (let same : plane n 6 b t ≡ plane n 6 a t = ⊎_elim (λ i. sym (ap (plane n 6 b) k1) ∙ i ∙ ap (plane n 6 a) k1) (λ i. absurd (d (sym (ap (plane n 6 a) k1) ∙ i.0))) (u.judging.each x (to-rule x l) (omega arith)) in
+          | no d ↦ (let same : plane n 6 b t ≡ plane n 6 a t = ⊎_elim (λ i. sym (ap (plane n 6 b) k1) ∙ i ∙ ap (plane n 6 a) k1) (λ i. absurd (d (sym (ap (plane n 6 a) k1) ∙ i.0))) (u.judging.each x (in_rule st x l) (omega arith)) in
               inl (u.large x l ∙ old x t l ea (rw same at z)))
         ];
     room = u.stage.room;
@@ -171,12 +159,12 @@ module _ {rule : Rule} {grid : Grid} {k : ℕ} {met : ℕ → Type 0} {a b : Lis
 
     growing_c : Growing rule s (plane n 1 a) (large_of n a) (large_of n c)
     growing_c = record {
-      old = λ x l y. was_big x (of_rule x l) y;
-      only = λ x l y. let m = of_rule x l in ⊎_elim
+      old = λ x l y. was_big x (of_rule st x l) y;
+      only = λ x l y. let m = of_rule st x l in ⊎_elim
           (λ z. inl (sym (big_same n b c x z.1 ∙ u.large x m) ∙ y))
           (λ z. inr (takes (chosen_repaints x z.0 m (sym (label_b x m) ∙ z.1) (listed_chosen z.0 z.2))))
           (r.each x m);
-      whole = λ x y l m z e. let lx = of_rule x l in let ly = of_rule y m in whole_still dec r x y lx ly (rw (label_b x lx) z) (label_b x lx ∙ e ∙ sym (label_b y ly));
+      whole = λ x y l m z e. let lx = of_rule st x l in let ly = of_rule st y m in whole_still dec r x y lx ly (rw (label_b x lx) z) (label_b x lx ∙ e ∙ sym (label_b y ly));
     }
 
     done-c : (x : ℕ) → repaints rule s x ≡ true → large_of n c x ≡ true
@@ -190,7 +178,7 @@ module _ {rule : Rule} {grid : Grid} {k : ℕ} {met : ℕ → Type 0} {a b : Lis
       new = λ i x l m b' e. let e' : plane n 1 a x ≡ suc (plane n 7 b i) = e ∙ ap suc (log_c i m) in
           let rp = chosen_repaints x (plane n 7 b i) b' e' (u.log.named i l m) in (
             taken_big x (plane n 7 b i) b' (label_b x b' ∙ e') (i, l, m, refl),
-            case (large_of n a x) (λ y. not_both rule symm s.cells len x (repainted_small rule symm s len x rp) (sym (ready.flags x (to-rule x b')) ∙ y)) (λ y. y),
+            case (large_of n a x) (λ y. not_both rule symm s.cells len x (repainted_small rule symm s len x rp) (sym ((stage_ready st).flags x (in_rule st x b')) ∙ y)) (λ y. y),
           );
       all = λ x b' y z. ⊎_elim
           (λ i. clash y (big_same n b c x i.1 ∙ u.large x b' ∙ z))
@@ -209,27 +197,27 @@ module _ {rule : Rule} {grid : Grid} {k : ℕ} {met : ℕ → Type 0} {a b : Lis
 
     growing_d : Growing rule s (plane n 1 a) (large_of n a) (large_of n d)
     growing_d = record {
-      old = λ x l y. gained_old v x (of_rule x l) (was_big x (of_rule x l) y);
-      only = λ x l y. let m = of_rule x l in ⊎_elim
+      old = λ x l y. gained_old v x (of_rule st x l) (was_big x (of_rule st x l) y);
+      only = λ x l y. let m = of_rule st x l in ⊎_elim
           (λ z. growing_c.only x l (sym (big_same n c d x z) ∙ y))
           (λ z. let f = z.1 in
           let t = f.named in
           let p = t.3.0 in
           let lab : plane n 1 a p ≡ suc (plane n 7 b t.0) = sym (label-c p t.3.1) ∙ t.3.2 ∙ ap suc (log_c t.0 t.2) in
           let by-label = label-c f.by f.bound in
-          inr (absorbed_grows rule symm s (plane n 1 a) (large_of n a) (large rule (cells_of n a)) ready (large_of n c) growing_c (λ q b' e. done-c q e) p f.by (to-rule f.by f.bound) (rw by-label at f.label) f.little
+          inr (absorbed_grows rule symm s (plane n 1 a) (large_of n a) (large rule (cells_of n a)) (stage_ready st) (large_of n c) growing_c (λ q b' e. done-c q e) p f.by (in_rule st f.by f.bound) (rw by-label at f.label) f.little
           (st.ruled.ways p f.by ∙ t.3.3.0) (chosen_repaints p (plane n 7 b t.0) t.3.1 lab (u.log.named t.0 t.1 t.2)) (same-cell p f.by t.3.1 f.bound (sym t.3.3.1))
           x l (sym (label-c x m) ∙ f.group ∙ by-label)))
           (v.flags x m);
-      whole = λ x y l m z e. let lx = of_rule x l in let ly = of_rule y m in v.growth.whole x y lx ly (rw (label-d x lx) z) (label-d x lx ∙ e ∙ sym (label-d y ly));
+      whole = λ x y l m z e. let lx = of_rule st x l in let ly = of_rule st y m in v.growth.whole x y lx ly (rw (label-d x lx) z) (label-d x lx ∙ e ∙ sym (label-d y ly));
     }
 
     -- the flags have grown as the pass asks
     pub grown_flags : Grown rule s (plane n 1 a) (large_of n a) (large_of n d)
     grown_flags =
-        growing_end rule symm s (plane n 1 a) (large_of n a) (large rule (cells_of n a)) ready (large_of n d) growing_d
-        (λ x l e. gained_old v x (of_rule x l) (done-c x e))
-        (λ z q l g e rp i. let m = of_rule q l in
+        growing_end rule symm s (plane n 1 a) (large_of n a) (large rule (cells_of n a)) (stage_ready st) (large_of n d) growing_d
+        (λ x l e. gained_old v x (of_rule st x l) (done-c x e))
+        (λ z q l g e rp i. let m = of_rule st q l in
         let ch = repaints_chosen z rp in
         let j = u.log.all ch.1 ch.3 in
         v.told q m (j.0, j.1, j.2, (z, ch.0, label-c z ch.0 ∙ ch.2 ∙ ap suc (sym (log_c j.0 j.2 ∙ j.3)), (sym (st.ruled.ways z q) ∙ e, same_paint q z m ch.0 (sym i)))) (rw (label-c q m) g))

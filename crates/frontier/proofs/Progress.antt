@@ -9,24 +9,25 @@ use native.Mathlib.Omega.{arith}
 use borrow.Author.Tests.{ne_eqb}
 use lib.Dec.{eqb}
 use Rattle.std.specs.Prelude.{Option, Some}
-use Rattle.base.proofs.Counting.{case, table-length}
+use Rattle.base.proofs.Counting.{case}
 use Rattle.rules.specs.Regions.{opaque, Symmetric}
 use Rattle.rules.specs.Pass.{Rule, State, marked, large, small, fates, fate}
 use Rattle.rules.proofs.Roots.{join_right, opaque-below}
 use Rattle.rules.proofs.Passes.{small_or_large}
-use Rattle.rules.proofs.Frontier.{with_frozen, fate_local, fate-large, fronted_start}
+use Rattle.rules.proofs.Frontier.{with_frozen, fate_local, fate-large}
 use Rattle.rules.proofs.Groups.{Ready}
 use Rattle.grid.specs.declared.Grid.{Grid}
 use Rattle.grid.specs.Planes.{plane, cells_of, end_of}
-use Rattle.grid.proofs.Planes.{cells_kept, cells-size}
+use Rattle.grid.proofs.Planes.{cells_kept}
 use Rattle.verdicts.specs.declared.large.Span.{Span}
 use Rattle.verdicts.specs.Steps.{area_of}
-use Rattle.verdicts.specs.Judging.{state_of, fate_number, large_of, Sound}
+use Rattle.verdicts.specs.Judging.{state_of, fate_number, large_of}
 use Rattle.frontier.specs.Judging.{Judging, frozen_of, Noted, Stage, Met, Small}
 use Rattle.verdicts.specs.Groups.{Group}
 use Rattle.verdicts.proofs.Keeping.{sheet-few, group-alike}
 use Rattle.verdicts.proofs.Spans.{SpanTurn, span_turn, group-stretch}
 use Rattle.frontier.proofs.Stages.{frozen_is, stage_noted}
+use Rattle.frontier.proofs.Starts.{stage_ready}
 use Rattle.frontier.proofs.Turns.{LogTurn, log_turn}
 use Rattle.frontier.proofs.Filing.{filed_start, filed_trans, filed_noted}
 
@@ -149,21 +150,6 @@ module _ (rule : Rule) (symm : Symmetric rule.adj) (n : ℕ) (is-n : rule.places
 
 -- ---- group after group
 
--- a pass may begin: the planes are sound, and a group with a number is frozen or large
-pub sound_ready : (rule : Rule) (symm : Symmetric rule.adj) (n : ℕ) → rule.places ≡ n → (a : List ℕ) → Sound rule n a → Ready rule (state_of n a) (plane n 1 a) (large_of n a) (large rule (cells_of n a))
-unfolding state_of
-sound_ready rule symm n e a s = record {
-  grouped = record {
-    size = cells-size n a ∙ sym e;
-    room = table-length n _ ∙ sym e;
-    shown = λ x l. s.shown x (rw (← e) l);
-    region = λ x y h l. s.region x y h (rw (← e) l);
-    frozen = λ x y l m. s.frozen x y (rw (← e) l) (rw (← e) m);
-  };
-  flags = λ x l. s.flags x (rw (← e) l);
-  fronted = fronted_start rule symm (state_of n a) (cells-size n a ∙ sym e);
-}
-
 -- fewer groups are named
 pub met_fewer : {rule : Rule} {grid : Grid} {k : ℕ} {met less : ℕ → Type 0} {a b : List ℕ} {from end : ℕ} → ((l : ℕ) → less l → met l) → Met rule grid k met a b from end → Met rule grid k less a b from end
 met_fewer f u = record {
@@ -200,9 +186,6 @@ module _ {rule : Rule} {grid : Grid} {k from : ℕ} {a : List ℕ} (st : Stage r
   abbrev symm : Symmetric rule.adj
   symm = st.ruled.symm
 
-  ready : Ready rule (state_of n a) (plane n 1 a) (large_of n a) (large rule (cells_of n a))
-  ready = sound_ready rule symm n e a st.sound
-
   thaw_at : (x at : ℕ) → x < n → plane n 1 a x ≡ suc at → plane n 6 a at ≡ 0 → marked (state_of n a).frozen x ≡ false
   thaw_at x at l y z = case (marked (state_of n a).frozen x) (λ q. absurd (st.sound.thawed x at l y z q)) (λ q. q)
 
@@ -228,7 +211,7 @@ module _ {rule : Rule} {grid : Grid} {k from : ℕ} {a : List ℕ} (st : Stage r
       stage = stage_noted u.stage g v;
       same = λ i q l z. v.same i q l z ∙ u.same i q l z;
       large = λ q l. v.large q l ∙ u.large q l;
-      judging = judging_noted rule symm n e a b (large_of n a) (large rule (cells_of n a)) ready thaw_at u.same u.judging at end c r v lead lead-at.0 lead_in in_use;
+      judging = judging_noted rule symm n e a b (large_of n a) (large rule (cells_of n a)) (stage_ready st) thaw_at u.same u.judging at end c r v lead lead-at.0 lead_in in_use;
       numbered = numbered';
       log = filed_trans n from end r a b c (λ q l. u.same 1 q (omega arith) l) was stays u.log
           (filed_noted rule n at end b c r v (λ x l b e. (u.stage.sheet.groups x l b e).label) lead lead-at.0 lead-at.1);
@@ -247,7 +230,7 @@ module _ {rule : Rule} {grid : Grid} {k from : ℕ} {a : List ℕ} (st : Stage r
         in_use x l z = (u.stage.sheet.groups x (plane n 1 a x - 1) l (u.same 1 x (omega arith) l ∙ omega arith)).label
 
         was : (x t : ℕ) → x < n → plane n 1 a x ≡ suc t → plane n 6 b t ≡ 0 → plane n 6 a t ≡ 0
-        was x t l y z = free_was rule symm n e a b (large_of n a) (large rule (cells_of n a)) ready thaw_at u.same u.judging x t l y z
+        was x t l y z = free_was rule symm n e a b (large_of n a) (large rule (cells_of n a)) (stage_ready st) thaw_at u.same u.judging x t l y z
 
         stays : (x t : ℕ) → x < n → plane n 1 a x ≡ suc t → (plane n 6 b t ≡ 0 → ⊥) → plane n 6 c t ≡ plane n 6 b t
         stays x t l y z =
@@ -264,7 +247,7 @@ module _ {rule : Rule} {grid : Grid} {k from : ℕ} {a : List ℕ} (st : Stage r
                 | yes o ↦ (let o' : plane n 6 b at ≡ 0 = rw i at o in
                     let y' : plane n 1 a x ≡ suc at = rw i at y in
                     ap (plane n 6 c) i ∙ v.right o' x l (u.same 1 x (omega arith) l ∙ y')
-                    ∙ ap fate_number (fate-same rule symm n e a b (large_of n a) (large rule (cells_of n a)) ready thaw_at u.same u.judging x at l y' o'))
+                    ∙ ap fate_number (fate-same rule symm n e a b (large_of n a) (large rule (cells_of n a)) (stage_ready st) thaw_at u.same u.judging x at l y' o'))
                 | no o ↦ (let done : plane n 6 c t ≡ plane n 6 b t = ap (plane n 6 c) i ∙ v.done (λ q. o (ap (plane n 6 b) i ∙ q)) ∙ ap (plane n 6 b) (sym i) in
                     ⊎_elim (λ q. absurd (o (sym (ap (plane n 6 b) k1) ∙ q ∙ ap (plane n 6 a) k1 ∙ f))) (λ q. done ∙ sym (ap (plane n 6 b) k1) ∙ q.1) (u.judging.each x (rw e l) (omega arith)))
               ])
@@ -285,8 +268,8 @@ module _ {rule : Rule} {grid : Grid} {k from : ℕ} {a : List ℕ} (st : Stage r
     mid_free : (x : ℕ) → x < n → 0 < plane n 1 a x → num b x ≡ 0 → (num a x ≡ 0) × (fate (fates rule (state_of n b)) x ≡ fate (fates rule sa) x)
     mid_free x l z o =
         let y : plane n 1 a x ≡ suc (plane n 1 a x - 1) = omega arith in (
-          free_was rule symm n e a b (large_of n a) (large rule (cells_of n a)) ready thaw_at u.same u.judging x (plane n 1 a x - 1) l y o,
-          fate-same rule symm n e a b (large_of n a) (large rule (cells_of n a)) ready thaw_at u.same u.judging x (plane n 1 a x - 1) l y o,
+          free_was rule symm n e a b (large_of n a) (large rule (cells_of n a)) (stage_ready st) thaw_at u.same u.judging x (plane n 1 a x - 1) l y o,
+          fate-same rule symm n e a b (large_of n a) (large rule (cells_of n a)) (stage_ready st) thaw_at u.same u.judging x (plane n 1 a x - 1) l y o,
         )
 
     -- the second judging, by the labels of a

@@ -45,10 +45,14 @@ pub record Repainted (n : ℕ) (named : ℕ → Type 0) (a b : List ℕ) : Type 
   pub large : (q at : ℕ) → q < n → plane n 1 a q ≡ suc at → named at → plane n 5 b q ≡ 1
   pub each : (q : ℕ) → q < n → ((plane n 0 b q ≡ plane n 0 a q) × (plane n 5 b q ≡ plane n 5 a q)) ⊎ ((at : ℕ) × (plane n 1 a q ≡ suc at) × named at)
 
+-- a group is large as a whole
+abbrev pub LargeAsWhole : ℕ → List ℕ → Type 0
+LargeAsWhole n work = (x y : ℕ) → x < n → y < n → 0 < plane n 1 work x → plane n 1 work x ≡ plane n 1 work y → large_of n work x ≡ large_of n work y
+
 -- The planes as each step of growing finds and leaves them, with the log up to `end`: a group is large as a whole, a repainted one is large, and the log has room for every idle place
 pub record Growth (grid : Grid) (end : ℕ) (work : List ℕ) : Type 0 where
   pub sheet : GroupedSheet grid work
-  pub whole : (x y : ℕ) → x < area_of grid → y < area_of grid → 0 < plane (area_of grid) 1 work x → plane (area_of grid) 1 work x ≡ plane (area_of grid) 1 work y → large_of (area_of grid) work x ≡ large_of (area_of grid) work y
+  pub whole : LargeAsWhole (area_of grid) work
   pub done : (x at : ℕ) → x < area_of grid → plane (area_of grid) 1 work x ≡ suc at → 2 ≤ plane (area_of grid) 6 work at → large_of (area_of grid) work x ≡ true
   pub room : end + count (area_of grid) (idle (area_of grid) work) ≤ area_of grid
 
@@ -75,7 +79,7 @@ pub record Gained (grid : Grid) (near : ℕ → Type 0) (a b : List ℕ) (from e
 -- The planes once the groups to be repainted are logged, from `from` on and before `mid`: every other group with a number of 2 or more is large
 pub record Decided (grid : Grid) (from mid : ℕ) (work : List ℕ) : Type 0 where
   pub sheet : GroupedSheet grid work
-  pub whole : (x y : ℕ) → x < area_of grid → y < area_of grid → 0 < plane (area_of grid) 1 work x → plane (area_of grid) 1 work x ≡ plane (area_of grid) 1 work y → large_of (area_of grid) work x ≡ large_of (area_of grid) work y
+  pub whole : LargeAsWhole (area_of grid) work
   pub groups : (i : ℕ) → from ≤ i → i < mid → Group (area_of grid) work (plane (area_of grid) 7 work i)
   pub numbers : (i : ℕ) → from ≤ i → i < mid → (2 ≤ plane (area_of grid) 6 work (plane (area_of grid) 7 work i)) × (plane (area_of grid) 6 work (plane (area_of grid) 7 work i) ≤ 257)
   pub done : (x at : ℕ) → x < area_of grid → plane (area_of grid) 1 work x ≡ suc at → 2 ≤ plane (area_of grid) 6 work at → (large_of (area_of grid) work x ≡ true) ⊎ Listed (area_of grid) work from mid at

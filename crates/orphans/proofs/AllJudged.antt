@@ -22,7 +22,8 @@ use Rattle.orphans.proofs.LabelledSheets.{label-below}
 use Rattle.frontier.specs.Judging.{Numbered, Stage, Met, Small, AroundLogged}
 use Rattle.frontier.proofs.Decisions.{waits_little, judging_end}
 use Rattle.verdicts.proofs.Verdicts.{number_acts}
-use Rattle.frontier.proofs.Progress.{sound_ready, met_fewer}
+use Rattle.frontier.proofs.Starts.{in_rule, of_rule, stage_ready}
+use Rattle.frontier.proofs.Progress.{met_fewer}
 use Rattle.orphans.specs.Starting.{AtStart}
 use Rattle.orphans.specs.Passing.{AtFrontier}
 use Rattle.orphans.proofs.Parts.{AllJudged}
@@ -34,14 +35,11 @@ module _ {rule : Rule} {grid : Grid} {k end : ℕ} {a : List ℕ} (st : Stage ru
   abbrev n : ℕ
   n = area_of grid
 
-  abbrev is : rule.places ≡ n
-  is = st.ruled.size
-
   abbrev symm : Symmetric rule.adj
   symm = st.ruled.symm
 
   ready : Ready rule (state_of n a) (plane n 1 a) (large_of n a) front
-  ready = let r = sound_ready rule symm n is a st.sound in record { grouped = r.grouped; flags = r.flags; fronted = fronted }
+  ready = let r = stage_ready st in record { grouped = r.grouped; flags = r.flags; fronted = fronted }
 
   pub all_judged : {met : ℕ → Type 0} {b : List ℕ} {mid : ℕ} → Met rule grid k met a b end mid →
       ((x y q : ℕ) → x < n → 0 < plane n 1 a x → large rule (cells_of n a) x ≡ false → y < n → plane n 1 a x ≡ plane n 1 a y → rule.adj y q ≡ true → front q ≡ true → met (plane n 1 a x - 1)) →
@@ -49,7 +47,7 @@ module _ {rule : Rule} {grid : Grid} {k end : ℕ} {a : List ℕ} (st : Stage ru
   unfolding state_of
   all_judged {b = b} u covers = record {
     judged = met_fewer (λ l z. absurd z) u;
-    fates = λ x l z. judging_end rule symm (state_of n a) (plane n 1 a) (large_of n a) front ready (plane n 6 a) told (plane n 6 b) _ u.judging all x (rw is l) z;
+    fates = λ x l z. judging_end rule symm (state_of n a) (plane n 1 a) (large_of n a) front ready (plane n 6 a) told (plane n 6 b) _ u.judging all x (in_rule st x l) z;
   }
     where
       all : (x y q : ℕ) → x < rule.places → 0 < plane n 1 a x → waits rule (state_of n a) x ≡ true → y < rule.places → plane n 1 a x ≡ plane n 1 a y → rule.adj y q ≡ true → front q ≡ true →
@@ -58,7 +56,7 @@ module _ {rule : Rule} {grid : Grid} {k end : ℕ} {a : List ℕ} (st : Stage ru
           let free : plane n 6 a (plane n 1 a x - 1) ≡ 0 = ⊎_elim (λ i. sym i ∙ o) (λ i. i.0) (u.judging.each x lx z) in
           number_acts (fate (fates rule (state_of n a)) x)
           (group_acts rule symm (state_of n a) (plane n 1 a) ready.grouped front fronted x y q lx z v ly e t f)
-          (sym (u.numbered x (plane n 1 a x - 1) (rw (← is) lx) (omega arith) (covers x y q (rw (← is) lx) z (waits_little rule (state_of n a) x v) (rw (← is) ly) e t f) free) ∙ o)
+          (sym (u.numbered x (plane n 1 a x - 1) (of_rule st x lx) (omega arith) (covers x y q (of_rule st x lx) z (waits_little rule (state_of n a) x v) (of_rule st y ly) e t f) free) ∙ o)
 
 -- the first pass, which judges every region: what follows from the contract of `judge_all`
 pub first_all_judged : {grid : Grid} {by : Criteria} (palette : List Float) {a b : List ℕ} {count mid : ℕ} → AtStart grid by a count →
@@ -77,18 +75,17 @@ unfolding state_of Symmetric
 frontier_all_judged {rule} {grid} {a = a} u v =
     let n = area_of grid in
     let st = u.planes.stage in
-    let size = st.ruled.size in
     let symm = st.ruled.symm in
-    let g = (sound_ready rule symm n size a st.sound).grouped in
+    let g = (stage_ready st).grouped in
     all_judged st u.planes.told u.fronted v
     (λ x y q lx z s ly e t f.
     let big = u.fronted.big q f in
-    let lq : q < n = rw (← size) (opaque-below rule.places rule.adj (cells_of n a) g.size q (large-opaque rule symm (cells_of n a) g.size q big)) in
+    let lq : q < n = of_rule st q (opaque-below rule.places rule.adj (cells_of n a) g.size q (large-opaque rule symm (cells_of n a) g.size q big)) in
     let i = u.listed q lq f in
     record {
       place = y;
       named = (i.0, i.1, i.2, (q, lq, i.3, sym (st.ruled.ways q y) ∙ symm y q t));
       bound = ly;
-      little = st.sound.flags y ly ∙ sym (group-large rule symm (state_of n a) (plane n 1 a) g x y (rw size lx) (rw size ly) z e) ∙ s;
+      little = st.sound.flags y ly ∙ sym (group-large rule symm (state_of n a) (plane n 1 a) g x y (in_rule st x lx) (in_rule st y ly) z e) ∙ s;
       label = sym e ∙ omega arith;
     })

@@ -24,7 +24,7 @@ use Rattle.verdicts.specs.Judging.{state_of, fate_number, Indexed}
 use Rattle.frontier.proofs.Growth.{merges-number}
 use Rattle.frontier.specs.Judging.{frozen_of, Stage}
 use Rattle.frontier.proofs.Stages.{frozen_is}
-use Rattle.frontier.proofs.Progress.{sound_ready}
+use Rattle.frontier.proofs.Starts.{in_rule, of_rule, stage_ready}
 use Rattle.orphans.specs.Passing.{PassDone}
 use Rattle.orphans.proofs.Parts.{AllJudged, TargetsTaken}
 
@@ -59,9 +59,6 @@ module _ {rule : Rule} {grid : Grid} {k end mid : ℕ} {a b d : List ℕ} (st : 
   abbrev n : ℕ
   n = area_of grid
 
-  abbrev is : rule.places ≡ n
-  is = st.ruled.size
-
   abbrev symm : Symmetric rule.adj
   symm = st.ruled.symm
 
@@ -75,19 +72,13 @@ module _ {rule : Rule} {grid : Grid} {k end mid : ℕ} {a b d : List ℕ} (st : 
   num work x = plane n 6 work (plane n 1 a x - 1)
 
   grouped : Grouped rule s (plane n 1 a)
-  grouped = (sound_ready rule symm n is a st.sound).grouped
-
-  in_rule : (x : ℕ) → x < n → x < rule.places
-  in_rule x l = rw is l
-
-  of_rule : (x : ℕ) → x < rule.places → x < n
-  of_rule x l = rw (← is) l
+  grouped = (stage_ready st).grouped
 
   -- a place without a group has no fate
   bare : (x : ℕ) → x < n → plane n 1 a x ≡ 0 → f x ≡ stay
   bare x l e =
-      clear_fate rule symm s (plane n 1 a) grouped x (in_rule x l)
-      (case (opaque s.cells x) (λ y. let z = (grouped.shown x (in_rule x l)).0 y in absurd (omega arith)) (λ y. y))
+      clear_fate rule symm s (plane n 1 a) grouped x (in_rule st x l)
+      (case (opaque s.cells x) (λ y. let z = (grouped.shown x (in_rule st x l)).0 y in absurd (omega arith)) (λ y. y))
 
   -- a place is to be repainted exactly if its group was chosen
   chosen : (x : ℕ) → x < n → 2 ≤ fate_number (f x) → (0 < plane n 1 a x) × (num a x ≡ 0) × (num b x ≡ fate_number (f x))
@@ -137,11 +128,11 @@ module _ {rule : Rule} {grid : Grid} {k end mid : ℕ} {a b d : List ℕ} (st : 
   unfolding at state_of
   passed_cells =
       let len = grouped.size in
-      ext_get_or (negsuc 0) (cells_of n d) (pass rule s).cells (cells-size n d ∙ sym (pass-length rule symm s len ∙ is))
+      ext_get_or (negsuc 0) (cells_of n d) (pass rule s).cells (cells-size n d ∙ sym (pass-length rule symm s len ∙ st.ruled.size))
       (λ x z. let l : x < n = omega (arith, cells-size n d) in
       cells_at n d x l ∙ paint_at_lem x l ∙ ap (painted (f x)) (sym (cells_at n a x l))
-      ∙ ap (λ (y : Verdict). painted y (at (cells_of n a) x)) (fate-at rule symm s len x (in_rule x l))
-      ∙ sym (cell-at rule symm s len x (in_rule x l)))
+      ∙ ap (λ (y : Verdict). painted y (at (cells_of n a) x)) (fate-at rule symm s len x (in_rule st x l))
+      ∙ sym (cell-at rule symm s len x (in_rule st x l)))
 
   frozen_is_b : (x : ℕ) → x < n → frozen_of n b x ≡ (freezes (f x) || marked s.frozen x)
   unfolding frozen_of freezes
@@ -149,7 +140,7 @@ module _ {rule : Rule} {grid : Grid} {k end mid : ℕ} {a b d : List ℕ} (st : 
       elim (ℕ_discrete (plane n 1 a x) 0) [
         | yes e ↦ (sym (frozen_is n b x l) ∙ u.judged.stage.sound.clear x l (label_b x l ∙ e) ∙ sym (rw (bare x l e) (st.sound.clear x l e)))
         | no z ↦ (let some : 0 < plane n 1 a x = omega arith in
-            u.judged.judging.frozen x (in_rule x l) some
+            u.judged.judging.frozen x (in_rule st x l) some
             ∙ or_swap (marked s.frozen x) (eqb (num a x) 0 && eqb (num b x) 1)
             ∙ ap (λ (y : Bool). y || marked s.frozen x) (froze_by (num a x) (num b x) ∙ ap (λ (y : ℕ). eqb y 1) (sym (u.fates x l some)) ∙ sym (freezes-number (f x))))
       ]
@@ -162,11 +153,11 @@ module _ {rule : Rule} {grid : Grid} {k end mid : ℕ} {a b d : List ℕ} (st : 
   unfolding marked frozen_of
   passed_frozen =
       let len = grouped.size in
-      ext_get_or false (state_of n d).frozen (pass rule s).frozen (frozen_size ∙ sym (frozen_length rule symm s len ∙ is))
+      ext_get_or false (state_of n d).frozen (pass rule s).frozen (frozen_size ∙ sym (frozen_length rule symm s len ∙ st.ruled.size))
       (λ x z. let l : x < n = omega (arith, frozen_size) in
       frozen_is n d x l ∙ ap (λ (y : ℕ). not (eqb y 0)) (v.frozen x l) ∙ frozen_is_b x l
-      ∙ ap (λ (y : Verdict). freezes y || marked s.frozen x) (fate-at rule symm s len x (in_rule x l))
-      ∙ sym (frozen_at rule symm s len x (in_rule x l)))
+      ∙ ap (λ (y : Verdict). freezes y || marked s.frozen x) (fate-at rule symm s len x (in_rule st x l))
+      ∙ sym (frozen_at rule symm s len x (in_rule st x l)))
 
   pub passed_state : state_of n d ≡ pass rule s
   unfolding state_of pass applied
@@ -179,10 +170,10 @@ module _ {rule : Rule} {grid : Grid} {k end mid : ℕ} {a b d : List ℕ} (st : 
       same_test
       (λ y. let l : end < mid = leb_yes {m = suc end} {n = mid} y in
       let c = u.judged.log.named end (omega arith) l in
-      yes_any rule.places (λ p. merges (f p)) c.place (in_rule c.place c.bound)
+      yes_any rule.places (λ p. merges (f p)) c.place (in_rule st c.place c.bound)
       (merges-number (f c.place) ∙ yes_leb {m = 2} {n = fate_number (f c.place)} (named_two end c.place (omega arith) l c.bound c.label)))
       (λ y. let p = any_yes rule.places (λ p. merges (f p)) y in
-      let i = logged p.0 (of_rule p.0 p.1) (leb_yes {m = 2} {n = fate_number (f p.0)} (sym (merges-number (f p.0)) ∙ p.2)) in
+      let i = logged p.0 (of_rule st p.0 p.1) (leb_yes {m = 2} {n = fate_number (f p.0)} (sym (merges-number (f p.0)) ∙ p.2)) in
       yes_leb {m = suc end} {n = mid} (omega (arith, i.1, i.2)))
 
   -- a target is an index of the sheet
@@ -191,7 +182,7 @@ module _ {rule : Rule} {grid : Grid} {k end mid : ℕ} {a b d : List ℕ} (st : 
   passed_known = record { few = st.known.few; below = below }
     where
       len : length (cells_of n a) ≡ rule.places
-      len = cells-size n a ∙ sym is
+      len = cells-size n a ∙ sym st.ruled.size
 
       -- a paint by the cell that it stands for
       as_cell_lem : (x y : ℕ) → x < n → y < n → at (cells_of n d) x ≡ at (cells_of n a) y → plane n 0 d x ≡ plane n 0 a y
@@ -201,7 +192,7 @@ module _ {rule : Rule} {grid : Grid} {k end mid : ℕ} {a b d : List ℕ} (st : 
       below x l =
           case (repaints rule s x)
           (λ y. let r = repainted rule symm s len x y in
-          let m : r.from < n = of_rule r.from (opaque-below rule.places rule.adj (cells_of n a) len r.from (large-opaque rule symm (cells_of n a) len r.from r.big)) in
+          let m : r.from < n = of_rule st r.from (opaque-below rule.places rule.adj (cells_of n a) len r.from (large-opaque rule symm (cells_of n a) len r.from r.big)) in
           rw (as_cell_lem x r.from l m (ap (λ (c : List ℤ). at c x) passed_cells ∙ r.takes x (here r.was))) (st.known.below r.from m))
           (λ z. rw (as_cell_lem x x l l (ap (λ (c : List ℤ). at c x) passed_cells ∙ unpainted_kept rule symm s len x z)) (st.known.below x l))
 

@@ -23,7 +23,7 @@ use Rattle.frontier.specs.Judging.{Numbered, Stage}
 use Rattle.verdicts.specs.Groups.{GroupedSheet}
 use Rattle.verdicts.proofs.Keeping.{Alike, group-alike}
 use Rattle.frontier.proofs.Stages.{frozen_is, big_some}
-use Rattle.frontier.proofs.Progress.{sound_ready}
+use Rattle.frontier.proofs.Starts.{in_rule, of_rule, stage_ready}
 use Rattle.orphans.specs.Passing.{BetweenPasses, AtFrontier}
 use Rattle.orphans.proofs.Parts.{AllJudged, TargetsTaken, GrownTo}
 use Rattle.orphans.proofs.Applying.{passed_cells, passed_frozen, passed_state, passed_known}
@@ -46,14 +46,8 @@ module _ {rule : Rule} {grid : Grid} {k end mid last : ℕ} {a b d : List ℕ} (
   abbrev n : ℕ
   n = area_of grid
 
-  abbrev is : rule.places ≡ n
-  is = rest.stage.ruled.size
-
   abbrev symm : Symmetric rule.adj
   symm = rest.stage.ruled.symm
-
-  abbrev sound : Sound rule n a
-  sound = rest.stage.sound
 
   abbrev told : Numbered rule (state_of n a) (plane n 1 a) (plane n 6 a)
   told = rest.told
@@ -70,14 +64,8 @@ module _ {rule : Rule} {grid : Grid} {k end mid last : ℕ} {a b d : List ℕ} (
   abbrev num : List ℕ → ℕ → ℕ
   num work x = plane n 6 work (plane n 1 a x - 1)
 
-  in_rule : (x : ℕ) → x < n → x < rule.places
-  in_rule x l = rw is l
-
-  of_rule : (x : ℕ) → x < rule.places → x < n
-  of_rule x l = rw (← is) l
-
   ready : Ready rule s (plane n 1 a) (large_of n a) (large rule (cells_of n a))
-  ready = sound_ready rule symm n is a sound
+  ready = stage_ready rest.stage
 
   -- what the next pass goes by
   abbrev grew : ℕ → Bool
@@ -106,16 +94,16 @@ module _ {rule : Rule} {grid : Grid} {k end mid last : ℕ} {a b d : List ℕ} (
 
   told_thawed : (x : ℕ) → x < n → 0 < plane n 1 a x → num b x ≡ 0 → marked s'.frozen x ≡ false
   told_thawed x l z e =
-      let was : num a x ≡ 0 = ⊎_elim (λ i. sym i ∙ e) (λ i. i.0) (u.judged.judging.each x (in_rule x l) z) in
+      let was : num a x ≡ 0 = ⊎_elim (λ i. sym i ∙ e) (λ i. i.0) (u.judged.judging.each x (in_rule rest.stage x l) z) in
       let c : fate_number (f x) ≡ 0 = u.fates x l z ∙ rw (was, e) in
-      frozen_at rule symm s ready.grouped.size x (in_rule x l)
-      ∙ ap (λ (y : Verdict). freezes y || marked s.frozen x) (sym (fate-at rule symm s ready.grouped.size x (in_rule x l)))
-      ∙ rw (number_none (f x) c) (told.thawed x (in_rule x l) z was)
+      frozen_at rule symm s ready.grouped.size x (in_rule rest.stage x l)
+      ∙ ap (λ (y : Verdict). freezes y || marked s.frozen x) (sym (fate-at rule symm s ready.grouped.size x (in_rule rest.stage x l)))
+      ∙ rw (number_none (f x) c) (told.thawed x (in_rule rest.stage x l) z was)
 
   froze : (x : ℕ) → x < n → (freezes (f x) ≡ true) ⊎ (marked s.frozen x ≡ true) → marked s'.frozen x ≡ true
   froze x l y =
-      frozen_at rule symm s ready.grouped.size x (in_rule x l)
-      ∙ ap (λ (y : Verdict). freezes y || marked s.frozen x) (sym (fate-at rule symm s ready.grouped.size x (in_rule x l)))
+      frozen_at rule symm s ready.grouped.size x (in_rule rest.stage x l)
+      ∙ ap (λ (y : Verdict). freezes y || marked s.frozen x) (sym (fate-at rule symm s ready.grouped.size x (in_rule rest.stage x l)))
       ∙ ⊎_elim (or_left (marked s.frozen x)) (or_right (freezes (f x))) y
 
   told-done : (x : ℕ) → x < n → 0 < plane n 1 a x → (num b x ≡ 0 → ⊥) → (marked s'.frozen x ≡ true) ⊎ (large rule s'.cells x ≡ true)
@@ -124,7 +112,7 @@ module _ {rule : Rule} {grid : Grid} {k end mid last : ℕ} {a b d : List ℕ} (
       elim (ℕ_discrete (num a x) 0) [
         | yes was ↦ (let c : fate_number (f x) ≡ num b x = u.fates x l z ∙ rw was in
             ⊎_elim (λ y. inr (repainted_large rule symm s ready.grouped.size x y)) (λ y. inl (froze x l (inl y))) (number_some (f x) (λ o. e (sym c ∙ o))))
-        | no was ↦ ⊎_elim (λ y. inl (froze x l (inr y))) (λ y. inr (large_stays rule symm s ready.grouped.size x y)) (told.done x (in_rule x l) z was)
+        | no was ↦ ⊎_elim (λ y. inl (froze x l (inr y))) (λ y. inr (large_stays rule symm s ready.grouped.size x y)) (told.done x (in_rule rest.stage x l) z was)
       ]
 
   num-d : (x : ℕ) → x < n → 0 < plane n 1 a x → plane n 6 d (plane n 1 d x - 1) ≡ num b x
@@ -132,8 +120,8 @@ module _ {rule : Rule} {grid : Grid} {k end mid last : ℕ} {a b d : List ℕ} (
 
   told' : Numbered rule (state_of n d) (plane n 1 d) (plane n 6 d)
   told' = record {
-    thawed = λ x b z e. let l = of_rule x b in let z' : 0 < plane n 1 a x = rw (← (label-d x l)) z in frozen_still x ∙ told_thawed x l z' (sym (num-d x l z') ∙ e);
-    done = λ x b z e. let l = of_rule x b in
+    thawed = λ x b z e. let l = of_rule rest.stage x b in let z' : 0 < plane n 1 a x = rw (← (label-d x l)) z in frozen_still x ∙ told_thawed x l z' (sym (num-d x l z') ∙ e);
+    done = λ x b z e. let l = of_rule rest.stage x b in
         let z' : 0 < plane n 1 a x = rw (← (label-d x l)) z in
         ⊎_elim (λ y. inl (frozen_still x ∙ y)) (λ y. inr (ap (λ (c : State). large rule c.cells x) state_is ∙ y)) (told-done x l z' (λ o. e (num-d x l z' ∙ o)));
   }
@@ -157,25 +145,25 @@ module _ {rule : Rule} {grid : Grid} {k end mid last : ℕ} {a b d : List ℕ} (
         cols = old.cols;
         room = rw v.len old.room;
         paint = λ q l. omega (arith, known'.below q l, known'.few);
-        shown = λ q l z. shown' q l ((ready'.grouped.shown q (in_rule q l)).1 (let e = label-d q l in omega arith));
-        large = λ q l z. shown' q l (large-opaque rule symm s'.cells ready'.grouped.size q (sym (ready'.flags q (in_rule q l)) ∙ big_some n d q z));
+        shown = λ q l z. shown' q l ((ready'.grouped.shown q (in_rule rest.stage q l)).1 (let e = label-d q l in omega arith));
+        large = λ q l z. shown' q l (large-opaque rule symm s'.cells ready'.grouped.size q (sym (ready'.flags q (in_rule rest.stage q l)) ∙ big_some n d q z));
         groups = λ q t l e. group-alike alike t (old.groups q t l (sym (g.same 1 q (omega arith) (omega arith) l) ∙ e));
       }
 
   small_in : (x : ℕ) → small rule s'.cells x ≡ true → x < n
-  small_in x y = of_rule x (opaque-below rule.places rule.adj s'.cells ready'.grouped.size x (small-opaque rule symm s'.cells ready'.grouped.size x y))
+  small_in x y = of_rule rest.stage x (opaque-below rule.places rule.adj s'.cells ready'.grouped.size x (small-opaque rule symm s'.cells ready'.grouped.size x y))
 
   sound' : Sound rule n d
   sound' = record {
     region = λ x y z l. let z' : small rule s'.cells x ≡ true = rw cells_are at z in
         let lx = small_in x z' in
-        let q = ready'.grouped.region x y z' (in_rule y l) in (
+        let q = ready'.grouped.region x y z' (in_rule rest.stage y l) in (
           (λ j. label-d x lx ∙ q.0 (rw cells_are at j) ∙ sym (label-d y l)),
           (λ e. rw cells_are (q.1 (sym (label-d x lx) ∙ e ∙ label-d y l))),
         );
-    shown = λ x l. let q = ready'.grouped.shown x (in_rule x l) in ((λ o. rw (label-d x l) (q.0 (rw cells_are at o))), (λ m. rw cells_are (q.1 (rw (label-d x l) at m))));
-    frozen = λ x y lx ly z e. frozen_still x ∙ ready'.grouped.frozen x y (in_rule x lx) (in_rule y ly) (rw (label-d x lx) at z) (sym (label-d x lx) ∙ e ∙ label-d y ly) ∙ sym (frozen_still y);
-    flags = λ x l. ready'.flags x (in_rule x l) ∙ ap (λ (c : List ℤ). large rule c x) (sym cells_are);
+    shown = λ x l. let q = ready'.grouped.shown x (in_rule rest.stage x l) in ((λ o. rw (label-d x l) (q.0 (rw cells_are at o))), (λ m. rw cells_are (q.1 (rw (label-d x l) at m))));
+    frozen = λ x y lx ly z e. frozen_still x ∙ ready'.grouped.frozen x y (in_rule rest.stage x lx) (in_rule rest.stage y ly) (rw (label-d x lx) at z) (sym (label-d x lx) ∙ e ∙ label-d y ly) ∙ sym (frozen_still y);
+    flags = λ x l. ready'.flags x (in_rule rest.stage x l) ∙ ap (λ (c : List ℤ). large rule c x) (sym cells_are);
     thawed = λ x t l e z y. let lt = (sheet'.groups x t l e).label in
         let i : plane n 1 a x - 1 ≡ t = omega (arith, label-d x l) in
         clash y (frozen_still x ∙ told_thawed x l (omega (arith, label-d x l)) (ap (plane n 6 b) i ∙ sym (g.numbers t lt) ∙ z));

@@ -55,6 +55,17 @@ number_acts stay h e = ⊎_elim (λ y. clash y refl) (λ y. clash y refl) h
 number_acts (merge c d) h e = omega arith
 number_acts (freeze c d) h e = omega arith
 
+-- sound planes are in groups, as the rules' proofs have them
+pub sound_grouped : (rule : Rule) (n : ℕ) (a : List ℕ) → rule.places ≡ n → Sound rule n a → Grouped rule (state_of n a) (plane n 1 a)
+unfolding state_of
+sound_grouped rule n a e s = record {
+  size = cells-size n a ∙ sym e;
+  room = table-length n _ ∙ sym e;
+  shown = λ x l. s.shown x (rw (← e) l);
+  region = λ x y h l. s.region x y h (rw (← e) l);
+  frozen = λ x y l m. s.frozen x y (rw (← e) l) (rw (← e) m);
+}
+
 module _ {grid : Grid} (by : Criteria) (palette : List Float) {a : List ℕ} (sheet : GroupedSheet grid a) (sound : Sound (rule_of grid by palette) (area_of grid) a) where
   abbrev n : ℕ
   n = area_of grid
@@ -85,14 +96,8 @@ module _ {grid : Grid} (by : Criteria) (palette : List Float) {a : List ℕ} (sh
   sym_rule = neighbours_symmetric grid.near grid.w
 
   grouped : Grouped rule s group
-  unfolding rule_of state_of
-  grouped = record {
-    size = cells-size n a;
-    room = table-length n _;
-    shown = sound.shown;
-    region = sound.region;
-    frozen = sound.frozen;
-  }
+  unfolding rule_of
+  grouped = sound_grouped rule n a refl sound
 
   -- q neighbours a place of the group t
   abbrev Around : ℕ → ℕ → Type 0
