@@ -1,6 +1,6 @@
 -- The rows of `add_outline`: which sheets are read before they are judged, row 8, and what an accepted call may rely on. Assumes nothing.
 use Prim.Native.Nat.{ℕ, ◌+◌, ◌*◌, ◌≤◌}
-use mathlib.Core.Path.{◌≡◌, refl, sym, ap, ◌∙◌}
+use mathlib.Core.Path.{◌≡◌, sym, ap, ◌∙◌}
 use mathlib.Core.Bool.{Bool, true, false, not, ◌&&◌, ◌||◌}
 use Rattle.std.specs.Prelude.{None, Some}
 use mathlib.Core.List.{List, []}
@@ -78,17 +78,6 @@ pad_touches how s y = right (how.allow_pad && asked how.outline) (touches s) y
 
 -- ---- row 8
 
--- the tests in the order of the code
-in_order : (a r z x : Bool) → (a && r && z && x) ≡ (z && (a && x) && r)
-in_order false r true x = refl
-in_order false r false x = refl
-in_order true true true true = refl
-in_order true true true false = refl
-in_order true true false x = refl
-in_order true false true true = refl
-in_order true false true false = refl
-in_order true false false x = refl
-
 module _ (how : Drawing) (k : ℕ) (on : Sheet) where
   -- an entry is needed
   abbrev pub Needs : Bool
@@ -97,9 +86,10 @@ module _ (how : Drawing) (k : ℕ) (on : Sheet) where
   abbrev pub no_entry_lem : Bool
   no_entry_lem = (no_entry how (palette_of [] k) on).applies
 
+  -- the tests in the order of the code
   sorted : no_entry_lem ≡ (eqb k 0 && Needs && has_ring on)
   unfolding no_entry
-  sorted = in_order (asked how.outline) (has_ring on) (eqb k 0) (is_auto how.outline || how.fixed_palette)
+  sorted = grind arith
 
   pub some_entry : (k ≡ 0 → ⊥) → no_entry_lem ≡ false
   some_entry e = sorted ∙ rw (ne_eqb k 0 e)

@@ -1,7 +1,7 @@
 -- Laws of saturation: the loop that writes it, and the loop that tests it. Assumes nothing.
 use Prim.Native.Nat.{ℕ, zero, suc, ◌+◌, ◌*◌, ◌%◌, ◌<◌}
 use mathlib.Core.Path.{◌≡◌, refl, sym, ap, ◌∙◌}
-use mathlib.Core.Bool.{Bool, true, false, not, ◌||◌, cond}
+use mathlib.Core.Bool.{Bool, not, ◌||◌, cond}
 use mathlib.Core.List.{List}
 use native.Mathlib.Nat.{le_refl}
 use native.Mathlib.Decide.{dec_lt}
@@ -98,18 +98,7 @@ module _ (lab : List Float) (beta : Float) where
   -- three doubles are those of a colour
   of_colour : (i : ℕ) (b : Bool) → too_far lab beta (3 * i + 2) || (too_far lab beta (3 * i + 1) || (too_far lab beta (3 * i) || b)) ≡ (colour_far lab beta i || b)
   unfolding too_far colour_far entry
-  of_colour i b =
-      rw (part_l lab beta i, part_a lab beta i, part_b lab beta i)
-      (turned (not (within (get_or lab (3 * i) nan))) (not (within (get_or lab (3 * i + 1) nan ⊗ beta))) (not (within (get_or lab (3 * i + 2) nan ⊗ beta))) b)
-    where
-      turned : (x y z b : Bool) → (z || (y || (x || b))) ≡ ((x || y || z) || b)
-      turned true y true b = refl
-      turned true true false b = refl
-      turned true false false b = refl
-      turned false true true b = refl
-      turned false true false b = refl
-      turned false false true b = refl
-      turned false false false b = refl
+  of_colour i b = rw (part_l lab beta i, part_a lab beta i, part_b lab beta i) (grind arith)
 
   pub colours_far : (k : ℕ) → any k (colour_far lab beta) ≡ any (3 * k) (too_far lab beta)
   unfolding any
