@@ -4,7 +4,7 @@ use Rattle.std.specs.declared.option.Option.{Option}
 use Rattle.replay.specs.declared.numbers.Numbers.{Numbers}
 use Rattle.replay.specs.declared.lists.Stored.{Stored}
 use Rattle.replay.specs.declared.comparison.Comparison.{Comparison}
-use Rattle.replay.specs.Lists.{number_at, past, given_at, end_of, agrees}
+use Rattle.replay.specs.Lists.{number_at, past, given_at, past_given, agrees}
 
 -- the answer at a place
 abbrev pub answered_at : Numbers → ℕ → Comparison
@@ -14,7 +14,7 @@ answered_at p answer = record { rest = past p 1; same = (number_at p == answer) 
 abbrev pub further : Comparison → Stored → ℕ → (ℕ → ℕ → Bool) → Comparison
 further c s n same =
     let g = given_at c.rest in
-    record { rest = end_of g; same = c.same && agrees (record { before = s; given = g }) n same }
+    record { rest = past_given g; same = c.same && agrees (record { before = s; given = g }) n same }
 
 -- the first case of a stream, which begins with how many numbers it has, and what follows it
 abbrev pub first_case : List ℕ → List ℕ

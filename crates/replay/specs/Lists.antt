@@ -20,8 +20,8 @@ abbrev pub given_at : Numbers → Given
 given_at p = record { count = number_at p; from = past p 1 }
 
 -- the place past them
-abbrev pub end_of : Given → Numbers
-end_of g = past g.from g.count
+abbrev pub past_given : Given → Numbers
+past_given g = past g.from g.count
 
 -- the one with index i, if so many are given
 abbrev pub given_element : Given → ℕ → Option ℕ

@@ -1,7 +1,7 @@
 // Lists as the numbers give them, and whether they hold what is stored of them after a call.
 ghost use Rattle.std.specs.Prelude.{◌≡◌, length};
 ghost use Rattle.replay.specs.Kinds.{same_at};
-ghost use Rattle.replay.specs.Lists.{end_of, given_element, element, element_after, stored_list, agrees};
+ghost use Rattle.replay.specs.Lists.{past_given, given_element, element, element_after, stored_list, agrees};
 
 use crate::kinds::Kind;
 use crate::numbers::Numbers;

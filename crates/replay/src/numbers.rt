@@ -1,6 +1,6 @@
 // A place in a stream of numbers.
 ghost use Rattle.std.specs.Prelude.{◌≡◌, length, ◌==◌};
-ghost use Rattle.replay.specs.Lists.{number_at, past, given_at, end_of, stored_at, work_at};
+ghost use Rattle.replay.specs.Lists.{number_at, past, given_at, past_given, stored_at, work_at};
 
 use crate::kinds::Kind;
 use crate::lists::{Given, Stored};
@@ -74,7 +74,7 @@ impl<'a> Numbers<'a> {
     // Reads how many elements are given, and these.
     pub fn given(&mut self) -> Given<'a>
         ensures value { result ≡ given_at self.old }
-        ensures after { self.new ≡ end_of result }
+        ensures after { self.new ≡ past_given result }
     {
         let count = self.size();
         let from = *self;
@@ -85,7 +85,7 @@ impl<'a> Numbers<'a> {
     // Reads a list.
     pub fn list(&mut self) -> Stored<'a>
         ensures value { result ≡ stored_at self.old }
-        ensures after { self.new ≡ end_of result.given }
+        ensures after { self.new ≡ past_given result.given }
     {
         let len = self.size();
         let given = self.given();

@@ -2,7 +2,7 @@
 ghost use Rattle.std.specs.Prelude.{◌≡◌, ℕ, ◌<◌, ◌≤◌, min, List, length, take, IfOk};
 ghost use Rattle.std.specs.Io.KnownBytes.{Consumes, IsAtEnd};
 ghost use Rattle.std.specs.Iterator.{YieldsFirst, item_count};
-ghost use Rattle.replay.specs.Texts.{digit_of, numbers_in, over};
+ghost use Rattle.replay.specs.Texts.{digit_of, numbers_in, over_within};
 
 use reading::{Filled, read_full};
 use std::alloc::{AllocError, Global};
@@ -67,7 +67,7 @@ pub fn numbers(alloc: Global, text: &[u8]) -> Result<Vec<u64>, AllocError>
 // Puts the numbers of a text over the front of a list, as far as it reaches, and answers how many were put.
 fn put(text: &[u8], numbers: &mut [u64]) -> usize
     ensures value { result ≡ min (length (numbers_in text.now)) (length numbers.old) }
-    ensures numbers_after { numbers.new ≡ over (numbers_in text.now) numbers.old }
+    ensures numbers_after { numbers.new ≡ over_within (numbers_in text.now) numbers.old }
 {
     let mut count = 0;
     for n in Numerals(text) {
@@ -94,7 +94,7 @@ pub struct Loaded {
 pub fn read<R: Read>(from: &mut R, text: &mut [u8], numbers: &mut [u64]) -> Loaded
     ensures bytes_in_bounds { result.bytes ≤ length text.new }
     ensures count_value { result.count ≡ min (length (numbers_in (take result.bytes text.new))) (length numbers.old) }
-    ensures numbers_after { numbers.new ≡ over (numbers_in (take result.bytes text.new)) numbers.old }
+    ensures numbers_after { numbers.new ≡ over_within (numbers_in (take result.bytes text.new)) numbers.old }
     ensures count_in_bounds { result.count ≤ length numbers.new }
     ensures bytes_read { Consumes (R.remaining from.old) (R.remaining from.new) (take result.bytes text.new) }
 {
