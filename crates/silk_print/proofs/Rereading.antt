@@ -17,7 +17,7 @@ use Rattle.hex_colour.specs.Hex.{space, mark, drop_while, stripped, digit, all_d
 use Rattle.color.specs.declared.Rgb8.{Rgb8}
 use Rattle.std.specs.Prelude.{Ok}
 use Rattle.hex_colour.proofs.Digits.{space_no, digit-decimal, digit-small}
-use Rattle.silk_reader.specs.Reader.{got, codes, bytes, newline, take_while, span, in_line, is_digit, value, proper, proper_number, number, natural, minus, negative, at_minus, cell, cell_at}
+use Rattle.silk_reader.specs.Reader.{got, codes, bytes, newline, take_while, span, in_line, is_digit, value, proper, proper_number, decimal_number, natural, minus, negative, at_minus, cell, cell_at}
 use Rattle.silk_reader.specs.Lines.{hex_line, colour_line}
 use Rattle.silk_print.specs.Claims.{InBytes}
 use Rattle.silk_print.specs.Print.{numeral, signed_numeral, cell_text, hex_digit, hex_byte, hex_colour, colour_text}
@@ -113,8 +113,8 @@ unfolding take_while
 while_stops [] s = refl
 while_stops (x ∷ rest) s = rw s.next
 
-pub number-back : (n : ℕ) → n < 10 ^ 9 → (rest : List ℕ) → Stops rest → number (numeral n ++ rest) ≡ got n rest
-unfolding number span proper_number
+pub number-back : (n : ℕ) → n < 10 ^ 9 → (rest : List ℕ) → Stops rest → decimal_number (numeral n ++ rest) ≡ got n rest
+unfolding decimal_number span proper_number
 number-back n h rest s =
     let f : take_while is_digit (numeral n ++ rest) ≡ numeral n =
     passing n rest ∙ ap (λ (l : List ℕ). numeral n ++ l) (while_stops rest s) ∙ append-nil (numeral n) in

@@ -13,7 +13,7 @@ use Rattle.base.proofs.Counting.{count_le}
 use Rattle.channel.specs.Channel.{threshold_of, byte_of}
 use Rattle.color.specs.Lab.{entry, lab_to_rgb8, mat_vec, rgb_from_xyz, xyz_of_lab}
 use Rattle.color.specs.declared.Lab.{Lab}
-use Rattle.silk_reader.specs.Reader.{got, Reader, newline, codes, series, number, cell_at, key_line, number_line}
+use Rattle.silk_reader.specs.Reader.{got, Reader, newline, codes, series, decimal_number, cell_at, key_line, number_line}
 use Rattle.silk_reader.specs.Lines.{colour_line}
 use Rattle.silk_text.specs.Format.{colour_lines, row_line, row_lines}
 use Rattle.silk_print.specs.Print.{numeral, cell_text, cells_text, number_text, colour_text, colours_text, row_text, rows_text, each}
@@ -33,7 +33,7 @@ line-back key s p x back rest =
 
 pub number_reread : NumberReread
 unfolding NumberReread number_line number_text
-number_reread key n h = line-back key (numeral n) number n (number-back n h)
+number_reread key n h = line-back key (numeral n) decimal_number n (number-back n h)
 
 pub colour_reread : ColourReread
 unfolding ColourReread Reread

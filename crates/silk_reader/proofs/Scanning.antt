@@ -15,7 +15,7 @@ use Rattle.base.specs.declared.Refusal.TheVariants.{Malformed}
 use Rattle.hex_colour.specs.Hex.{hex_to_rgb8}
 use borrow.Author.Tests.{le-leb, lt-leb, leb-true, ltb-false, eqb-true}
 use Rattle.base.proofs.Counting.{case, left, right}
-use Rattle.silk_reader.specs.Reader.{got, refused, newline, bytes, take_while, span, in_line, is_digit, value, proper, proper_number, number, at_minus}
+use Rattle.silk_reader.specs.Reader.{got, refused, newline, bytes, take_while, span, in_line, is_digit, value, proper, proper_number, decimal_number, at_minus}
 use Rattle.silk_reader.specs.Lines.{hex_line}
 use Rattle.silk_reader.specs.Answers.{answer, Decimal}
 
@@ -132,8 +132,8 @@ decimal_front text y =
     }
 
 pub number_cut : (text : List ℕ) →
-    number text ≡ proper_number (take (prefix_len is_ascii_digit text) text) (drop (prefix_len is_ascii_digit text) text)
-unfolding number span is_digit
+    decimal_number text ≡ proper_number (take (prefix_len is_ascii_digit text) text) (drop (prefix_len is_ascii_digit text) text)
+unfolding decimal_number span is_digit
 number_cut text = rw (while_length is_digit text, while_take is_digit text) refl
 
 -- ---- the rest of a line

@@ -11,7 +11,7 @@ use Rattle.silk_reader.specs.declared.head.OutlineKind.{OutlineKind}
 use Rattle.silk_reader.specs.declared.head.OutlineKind as kind
 use Rattle.silk_reader.specs.declared.head.Sizes.{Sizes}
 use Rattle.silk_reader.specs.declared.head.Passes.{Passes}
-use Rattle.silk_reader.specs.declared.head.Options.{Options}
+use Rattle.silk_reader.specs.declared.head.LastSettings.{LastSettings}
 use Rattle.silk_reader.specs.declared.head.Head.{Head}
 use Rattle.silk_reader.specs.Reader.{got, refused, Reader, ◌>>=◌, ◌>>◌, give, ◌or◌, codes, bytes, newline, span, in_line, number_line, switch_line}
 use Rattle.silk_reader.specs.Answers.{answer}
@@ -71,8 +71,8 @@ passes = do
   give (record { beta = hundredths beta; orphans = orphans; min = pos min; delta = decimal delta 0; jaggies = jaggies })
 
 -- the lines after the outline's
-unfoldable pub options : Reader Options
-options = do
+unfoldable pub last_settings : Reader LastSettings
+last_settings = do
   darken ← number_line (codes "darken=")
   tileset ← switch_line (codes "tileset=")
   margin ← number_line (codes "margin=")
@@ -81,8 +81,8 @@ options = do
   give (record { darken = darken; tileset = tileset; margin = pos margin; saturated = saturated; fixed = fixed })
 
 -- the head that its four parts make
-abbrev pub head_of : Sizes → Passes → OutlineKind → Options → Head
-head_of s p kind o =
+abbrev pub head_of : Sizes → Passes → OutlineKind → LastSettings → Head
+head_of s p kind last =
     record {
       height = s.height;
       width = s.width;
@@ -94,12 +94,12 @@ head_of s p kind o =
             orphan_min_region = p.min;
             orphan_max_delta = p.delta;
             fix_jaggies = p.jaggies;
-            outline = outline_with kind o.darken;
-            tileset = o.tileset;
+            outline = outline_with kind last.darken;
+            tileset = last.tileset;
           };
-      margin = o.margin;
-      saturated = o.saturated;
-      fixed = o.fixed;
+      margin = last.margin;
+      saturated = last.saturated;
+      fixed = last.fixed;
     }
 
 -- judged once the head is read: more than 40 rows or columns, more than 256 colours
@@ -109,7 +109,7 @@ checked_head h text =
 
 -- the rest of the head, after the outline's line
 abbrev pub head_end : Sizes → Passes → OutlineKind → Reader Head
-head_end s p kind = options >>= λ o. checked_head (head_of s p kind o)
+head_end s p kind = last_settings >>= λ last. checked_head (head_of s p kind last)
 
 -- all fourteen lines
 unfoldable pub head : Reader Head

@@ -98,12 +98,12 @@ unfoldable pub proper_number : List ℕ → Reader ℕ
 proper_number ds text = cond (proper ds) (got (value 0 ds) text) (refused Malformed)
 
 -- a decimal number
-unfoldable pub number : Reader ℕ
-number = span is_digit >>= proper_number
+unfoldable pub decimal_number : Reader ℕ
+decimal_number = span is_digit >>= proper_number
 
 -- a cell of 0 or more
 unfoldable pub natural : Reader ℤ
-natural = number >>= λ n. give (pos n)
+natural = decimal_number >>= λ n. give (pos n)
 
 -- the number below 0 of that size; there is no -0
 unfoldable pub minus : ℕ → Reader ℤ
@@ -111,7 +111,7 @@ minus n text = cond (eqb n 0) (refused Malformed) (got (neg_ℤ (pos n)) text)
 
 -- what follows a minus
 unfoldable pub negative : Reader ℤ
-negative = number >>= minus
+negative = decimal_number >>= minus
 
 -- whether a minus comes next
 unfoldable pub at_minus : List ℕ → Bool
@@ -137,7 +137,7 @@ key_line key p = do
 
 -- a line of a key and a number
 unfoldable pub number_line : List ℕ → Reader ℕ
-number_line key = key_line key number
+number_line key = key_line key decimal_number
 
 -- 0 or 1
 abbrev pub switch_of : ℕ → Reader Bool

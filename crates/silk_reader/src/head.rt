@@ -1,6 +1,6 @@
 // The head of the text: the sizes and settings, line by line.
 ghost use Rattle.std.specs.Prelude.{◌≡◌, List, ℕ};
-ghost use Rattle.silk_reader.specs.Lines.{hundredths, outline_value, outline_line, outline_with, sizes, passes, options, head_of, checked_head, head};
+ghost use Rattle.silk_reader.specs.Lines.{hundredths, outline_value, outline_line, outline_with, sizes, passes, last_settings, head_of, checked_head, head};
 ghost use Rattle.silk_reader.specs.Answers.{answer};
 
 use super::Cursor;
@@ -35,7 +35,7 @@ pub struct Passes {
 
 // The settings after the outline.
 #[derive(Clone, Copy, Debug, PartialEq, Eq)]
-pub struct Options {
+pub struct LastSettings {
     pub darken: u32,
     pub tileset: bool,
     pub margin: i32,
@@ -71,10 +71,10 @@ fn outline_with(kind: OutlineKind, darken: u32) -> Outline
     }
 }
 
-fn head_of(s: Sizes, p: Passes, kind: OutlineKind, o: Options) -> Head
-    ensures { result ≡ head_of s p kind o }
+fn head_of(s: Sizes, p: Passes, kind: OutlineKind, last: LastSettings) -> Head
+    ensures { result ≡ head_of s p kind last }
 {
-    let outline = outline_with(kind, o.darken);
+    let outline = outline_with(kind, last.darken);
     let config = PostConfig {
         saturation_beta: p.beta,
         remove_orphans: p.orphans,
@@ -82,16 +82,16 @@ fn head_of(s: Sizes, p: Passes, kind: OutlineKind, o: Options) -> Head
         orphan_max_delta: p.delta,
         fix_jaggies: p.jaggies,
         outline,
-        tileset: o.tileset,
+        tileset: last.tileset,
     };
     Head {
         height: s.height,
         width: s.width,
         colours: s.colours,
         config,
-        margin: o.margin,
-        saturated: o.saturated,
-        fixed: o.fixed,
+        margin: last.margin,
+        saturated: last.saturated,
+        fixed: last.fixed,
     }
 }
 
@@ -171,16 +171,16 @@ impl<'a> Cursor<'a> {
     }
 
     // The lines darken, tileset, margin, saturated and fixed.
-    #[tactic(auto, unfolding(crate::specs::Lines::options, crate::specs::Reader::codes))]
-    fn options(&mut self) -> Result<Options, Refusal>
-        ensures { answer result self.new ≡ options self.old }
+    #[tactic(auto, unfolding(crate::specs::Lines::last_settings, crate::specs::Reader::codes))]
+    fn last_settings(&mut self) -> Result<LastSettings, Refusal>
+        ensures { answer result self.new ≡ last_settings self.old }
     {
         let darken = self.number_line(b"darken=")?;
         let tileset = self.switch_line(b"tileset=")?;
         let margin = self.number_line(b"margin=")?;
         let saturated = self.switch_line(b"saturated=")?;
         let fixed = self.switch_line(b"fixed=")?;
-        Ok(Options {
+        Ok(LastSettings {
             darken,
             tileset,
             margin: margin as i32,
@@ -197,7 +197,7 @@ impl<'a> Cursor<'a> {
         let s = self.sizes()?;
         let p = self.passes()?;
         let kind = self.outline_line()?;
-        let o = self.options()?;
-        checked_head(head_of(s, p, kind, o))
+        let last = self.last_settings()?;
+        checked_head(head_of(s, p, kind, last))
     }
 }

@@ -7,7 +7,7 @@ pub mod items;
 ghost use Rattle.std.specs.Prelude.{◌≡◌, ◌==◌, ◌^◌, ◌<◌, ◌≤◌, length, position, IfOk, OnErr};
 ghost use Rattle.std.specs.Char.{is_ascii_digit};
 ghost use Rattle.std.specs.List.{prefix_len};
-ghost use Rattle.silk_reader.specs.Reader.{bytes, proper, value, number, natural, negative, cell, number_line, switch_line};
+ghost use Rattle.silk_reader.specs.Reader.{bytes, proper, value, decimal_number, natural, negative, cell, number_line, switch_line};
 ghost use Rattle.silk_reader.specs.Answers.{answer, Decimal};
 ghost use Rattle.silk_reader.specs.Lines.{hex_line};
 
@@ -109,8 +109,8 @@ impl<'a> Cursor<'a> {
 
     // A number of one to nine digits, with no leading zero.
     #[tactic(auto, using(crate::proofs::Scanning::number_cut, crate::proofs::Scanning::decimal_front), unfolding(crate::specs::Reader::proper_number))]
-    pub fn number(&mut self) -> Result<u32, Refusal>
-        ensures value { answer result self.new ≡ number self.old }
+    pub fn decimal_number(&mut self) -> Result<u32, Refusal>
+        ensures value { answer result self.new ≡ decimal_number self.old }
         ensures small { IfOk result (λ n. n < 10 ^ 9) }
     {
         let (digits, rest) = self.rest.split_at(digits_len(self.rest));
@@ -126,7 +126,7 @@ impl<'a> Cursor<'a> {
     fn natural(&mut self) -> Result<i32, Refusal>
         ensures { answer result self.new ≡ natural self.old }
     {
-        let n = self.number()?;
+        let n = self.decimal_number()?;
         Ok(n as i32)
     }
 
@@ -135,7 +135,7 @@ impl<'a> Cursor<'a> {
     fn negative(&mut self) -> Result<i32, Refusal>
         ensures { answer result self.new ≡ negative self.old }
     {
-        let n = self.number()?;
+        let n = self.decimal_number()?;
         if n == NEVER_NEGATIVE {
             return Err(Refusal::Malformed);
         }
@@ -161,7 +161,7 @@ impl<'a> Cursor<'a> {
         ensures small { IfOk result (λ n. n < 10 ^ 9) }
     {
         self.bytes(key)?;
-        let n = self.number()?;
+        let n = self.decimal_number()?;
         self.bytes(b"\n")?;
         Ok(n)
     }

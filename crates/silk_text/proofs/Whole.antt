@@ -17,7 +17,7 @@ use Rattle.base.specs.declared.Refusal.TheVariants.{SideTooLong, WrongLength, Ma
 use Rattle.base.specs.Refusals.{refusal, unless}
 use Rattle.base.proofs.Counting.{case}
 use Rattle.silk_reader.specs.Reader.{Got, got, refused, chain, ◌>>=◌, ◌>>◌, give, bytes, newline, codes, series, cell_at}
-use Rattle.silk_reader.specs.Lines.{sizes, passes, outline_line, options, head_of, checked_head, head_end, head}
+use Rattle.silk_reader.specs.Lines.{sizes, passes, outline_line, last_settings, head_of, checked_head, head_end, head}
 use Rattle.silk_text.specs.Format.{colour_lines, row_line, row_lines, File, lists, file, ended, max_bytes, parse}
 use Rattle.silk_text.specs.Answers.{laid, onto, lent}
 use Rattle.silk_reader.specs.declared.head.Head.{Head}
@@ -58,7 +58,7 @@ head-is text e =
     let a = chain_first (sizes text) (λ s. passes >>= λ p. outline_line >>= λ kind. head_end s p kind) e in
     let b = chain_first (passes a.rest) (λ p. outline_line >>= λ kind. head_end a.value p kind) a.then in
     let c = chain_first (outline_line b.rest) (λ kind. head_end a.value b.value kind) b.then in
-    let d = chain_first (options c.rest) (λ o. checked_head (head_of a.value b.value c.value o)) c.then in
+    let d = chain_first (last_settings c.rest) (λ last. checked_head (head_of a.value b.value c.value last)) c.then in
     checked_is (head_of a.value b.value c.value d.value) d.rest d.then
 
 -- the sheet of such a head fits where 1600 cells do
