@@ -14,6 +14,7 @@ use Rattle.std.specs.Prelude.{Ok, Err}
 use Rattle.base.specs.declared.Refusal.TheVariants.{ListTooShort}
 use Rattle.base.proofs.Counting.{left, right}
 use Rattle.rules.specs.declared.Facts.{Facts}
+use Rattle.silk_text.proofs.Laying.{laid_over}
 use Rattle.silk_print.specs.Print.{room_for, lengths_fit, result_fits, printed_answer, printed_buffer, Put, Printable}
 use Rattle.silk_print.specs.declared.Printer.{Printer}
 
@@ -33,7 +34,7 @@ module _ {fits : Bool} (y : fits ≡ true) {n : ℕ} {text old : List ℕ} {a b 
 
   pub buffer-printed : {new : List ℕ} → new ≡ b.out.now → new ≡ printed_buffer fits text old
   unfolding printed_buffer
-  buffer-printed q = rw y (q ∙ rw (f, e) at p.list)
+  buffer-printed q = rw y (q ∙ rw (f, e) at p.list ∙ laid_over text old)
 
 pub fits_printable : (facts : Facts) (palette : List Float) (cells : List ℤ) (out : List ℕ) → result_fits facts palette cells out ≡ true → {p : Printer} → p.at ≡ 0 → p.out.now ≡ out → Printable facts palette cells p
 unfolding result_fits lengths_fit

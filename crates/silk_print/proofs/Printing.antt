@@ -1,8 +1,5 @@
 -- Texts that are put into a buffer one after the other, by loops too. Assumes nothing.
-use Rattle.std.proofs.Common.{◌≡◌, ℕ, suc, ◌+◌, ◌-◌, ◌*◌, ◌≤◌, ◌<◌, List, [], ◌++◌, length, refl, sym, ap, ◌∙◌, append_assoc, append-nil, length-append, add-zero, add-one, zero-le, take, drop, arith}
-use Rattle.std.proofs.lemmas.Slice.{take-put_mid, drop-put_mid}
-use borrow.Rule.Slice.PartMut.{put_mid}
-use lib.ListN.{take-append-drop}
+use Rattle.std.proofs.Common.{◌≡◌, ℕ, suc, ◌+◌, ◌-◌, ◌*◌, ◌≤◌, ◌<◌, List, [], ◌++◌, length, refl, sym, ap, ◌∙◌, append_assoc, append-nil, length-append, add-zero, add-one, zero-le, arith}
 use mathlib.Core.List.{flat_map}
 use native.Mathlib.Nat.{sub-zero, suc-mul, le_refl}
 use Rattle.base.specs.Places.{table_from, table}
@@ -21,15 +18,6 @@ put_none p = record { short = omega arith; list = laid_none p.at p.out.now; next
 -- what is left of a printer that put a text
 pub put_laid : {text : List ℕ} {a b : Printer} → Room (length text) a → b.out.now ≡ laid a.at text a.out.now → b.at ≡ a.at + length text → b.out.ghost_name ≡ a.out.ghost_name → Put (length text) text a b
 put_laid {text} {a} h e f g = record { short = le_refl (length text); list = e; next = f; kept = ap length e ∙ laid-length a.at text a.out.now h; same = g }
-
--- what is left of a buffer when a text is laid over a part of it
-pub laid_mid : (a k : ℕ) (xs ys : List ℕ) → length ys ≡ k → a ≤ length xs → put_mid a k xs ys ≡ laid a ys xs
-unfolding laid
-laid_mid a k xs ys e h =
-    let n = a + length ys in
-    sym (take-append-drop n (put_mid a k xs ys))
-    ∙ ap (λ (l : List ℕ). l ++ drop n (put_mid a k xs ys)) (take-put_mid a k xs ys n refl h)
-    ∙ ap (λ (l : List ℕ). take a xs ++ ys ++ l) (drop-put_mid a k xs ys n (omega (arith, e)) h e)
 
 -- a text that is the same, with a bound that is no less
 pub put_as : {m n : ℕ} {s t : List ℕ} {a b : Printer} → Put m s a b → s ≡ t → m ≤ n → Put n t a b

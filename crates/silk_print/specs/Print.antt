@@ -8,6 +8,7 @@ use Rattle.color.specs.Lab.{entry, lab_to_rgb8}
 use Rattle.color.specs.declared.Rgb8.{Rgb8}
 use Rattle.rules.specs.declared.Facts.{Facts}
 use Rattle.rules.specs.Entries.{SizesInRange}
+use Rattle.rules.specs.Sheet.{over}
 use Rattle.silk_reader.specs.Reader.{codes, newline}
 use Rattle.silk_text.specs.Answers.{laid}
 use Rattle.silk_print.specs.declared.Printer.{Printer}
@@ -136,7 +137,7 @@ printed_answer fits text = cond fits (Ok (length text)) (Err ListTooShort)
 
 -- the buffer: the text at its front, or as it was
 unfoldable pub printed_buffer : Bool → List ℕ → List ℕ → List ℕ
-printed_buffer fits text out = cond fits (laid 0 text out) out
+printed_buffer fits text out = cond fits (over text out) out
 
 -- room for n more bytes
 abbrev pub Room : ℕ → Printer → Type 0

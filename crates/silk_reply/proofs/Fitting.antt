@@ -6,7 +6,6 @@ use mathlib.Core.List.{List}
 use Rattle.std.specs.Prelude.{Option, None, Some, Ok, Err}
 use native.Mathlib.Nat.{mul-add, mul_left_comm}
 use native.Mathlib.Omega.{arith}
-use lib.IntN.{ℤ}
 use lib.ListN.{length, length-append, length-drop}
 use Rattle.base.specs.Refusals.{unless, answered}
 use Rattle.base.proofs.Counting.{both, yes_leb}
@@ -38,9 +37,10 @@ fitting facts doubles cells a b c d e f =
     both (both (both (both (both (yes_leb a) (yes_leb b)) (yes_leb c)) (yes_leb entries)) (yes_leb held))
     (yes_leb (room facts.colours facts.height facts.width c a e))
 
-over-length : (new lent : List ℤ) → length lent ≤ length (over new lent)
+-- a list that is written over another leaves it no shorter
+pub over-least : {A : Type 0} (new lent : List A) → length lent ≤ length (over new lent)
 unfolding over
-over-length new lent = simp (length-append, length-drop) (omega arith)
+over-least new lent = simp (length-append, length-drop) (omega arith)
 
 -- ---- a call on 42 by 42 cells
 
@@ -55,7 +55,7 @@ module _ (x : RunCall) (lent : length x.lent.cells ≡ 1764) where
   unfolding facts_of
   accepted e =
       let l = left x e in
-      fitting facts _ _ l.high l.wide l.few (omega (arith, l.full)) (omega (arith, l.long)) (omega (arith, over-length after.sheet.cells x.lent.cells))
+      fitting facts _ _ l.high l.wide l.few (omega (arith, l.full)) (omega (arith, l.long)) (omega (arith, over-least after.sheet.cells x.lent.cells))
 
   -- what `run` answers is printed
   pub printed : {done : Processed} → run_answer x ≡ Ok done → lengths_fit done.facts (length (run_palette x)) (length (run_cells x)) 32768 ≡ true

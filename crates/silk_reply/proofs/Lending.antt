@@ -6,20 +6,21 @@ use mathlib.Core.List.{List, [], ◌∷◌, ◌++◌}
 use native.Mathlib.Nat.{mul-le-mul}
 use native.Mathlib.Omega.{arith}
 use lib.IntN.{pos}
-use lib.ListN.{length, take, drop, length-append, length-take, length-drop, length-replicate}
+use lib.ListN.{length, take, drop, length-take, length-drop, length-replicate}
 use lib.Seq.{take-take}
 use borrow.Author.Tests.{le-ltb, eq-eqb}
 use Rattle.base.specs.Doubles.{decimal}
 use Rattle.rules.specs.Rows.{too_large, too_short, cramped, bad_palette}
-use Rattle.rules.specs.Sheet.{needed}
-use Rattle.silk_text.specs.Answers.{laid, lent}
+use Rattle.rules.specs.Sheet.{needed, over}
+use Rattle.silk_text.specs.Answers.{lent}
 use Rattle.silk_text.specs.Format.{File, file, ended, max_bytes, parse}
 use Rattle.silk_reader.specs.Reader.{Got, got, refused, Reader, chain}
-use Rattle.silk_text.proofs.Laying.{laid-length}
+use Rattle.silk_text.proofs.Laying.{over-length}
 use Rattle.silk_text.proofs.Whole.{lent_got}
 use Rattle.silk_text.proofs.Keeping.{Small, parse-small}
 use Rattle.silk_reply.specs.Claims.{Suffices}
 use Rattle.silk_reply.specs.Reply.{no_colours, no_cells, got_text, silk_text}
+use Rattle.silk_reply.proofs.Fitting.{over-least}
 
 -- ---- 65,537 bytes are enough
 
@@ -55,28 +56,24 @@ unfolding needed
 needed-most h w true a b = mul-le-mul {n₁ = h + 2} {m₁ = w + 2} {n₂ = 42} {m₂ = 42} (omega arith) (omega arith)
 needed-most h w false a b = mul-le-mul {n₁ = h} {m₁ = w} {n₂ = 42} {m₂ = 42} (omega arith) (omega arith)
 
-laid-least : {A : Type 0} (new old : List A) → length old ≤ length (laid 0 new old)
-unfolding laid
-laid-least new old = simp (length-append, length-drop) (omega arith)
-
-laid_suffices : (f : File) → Small f → Suffices (record { head = f.head; palette = laid 0 f.palette no_colours; cells = laid 0 f.cells no_cells })
+over_suffices : (f : File) → Small f → Suffices (record { head = f.head; palette = over f.palette no_colours; cells = over f.cells no_cells })
 unfolding too_large too_short cramped bad_palette no_colours no_cells
-laid_suffices f s =
+over_suffices f s =
     let h = f.head in
     let b = s.bounded in
     let most : (pads : Bool) → needed h.height h.width pads ≤ 1764 = λ pads. needed-most h.height h.width pads b.rows b.columns in
-    let room : 1764 ≤ length (laid 0 f.cells no_cells) = omega (arith, laid-least f.cells no_cells, length-replicate 1764 (pos 0)) in
-    let fits : 0 + length f.palette ≤ length no_colours = omega (arith, s.entries, b.entries, length-replicate 768 (decimal 0 0)) in
-    let full : length (laid 0 f.palette no_colours) ≡ 768 = laid-length 0 f.palette no_colours fits ∙ length-replicate 768 (decimal 0 0) in
+    let room : 1764 ≤ length (over f.cells no_cells) = omega (arith, over-least f.cells no_cells, length-replicate 1764 (pos 0)) in
+    let fits : length f.palette ≤ length no_colours = omega (arith, s.entries, b.entries, length-replicate 768 (decimal 0 0)) in
+    let full : length (over f.palette no_colours) ≡ 768 = over-length f.palette no_colours fits ∙ length-replicate 768 (decimal 0 0) in
     record {
       sides = rw (le-ltb 512 h.height (omega (arith, b.rows)), le-ltb 512 h.width (omega (arith, b.columns)));
-      cells = λ pads. le-ltb (length (laid 0 f.cells no_cells)) (needed h.height h.width pads) (omega (arith, most pads));
+      cells = λ pads. le-ltb (length (over f.cells no_cells)) (needed h.height h.width pads) (omega (arith, most pads));
       work = λ pads. le-ltb 14112 (8 * needed h.height h.width pads) (omega (arith, most pads));
-      palette = rw (le-ltb 256 h.colours b.entries, eq-eqb (length (laid 0 f.palette no_colours)) 768 full);
+      palette = rw (le-ltb 256 h.colours b.entries, eq-eqb (length (over f.palette no_colours)) 768 full);
     }
 
 -- no text that is read is refused by rows 1 to 4 of `run`
 pub suffices : (text : List ℕ) {f : File} {rest : List ℕ} → lent no_colours no_cells (parse text) ≡ got f rest → Suffices f
 suffices text e =
     let l = lent_got no_colours no_cells (parse text) e in
-    subst Suffices l.same (laid_suffices l.file (parse-small text l.read))
+    subst Suffices l.same (over_suffices l.file (parse-small text l.read))

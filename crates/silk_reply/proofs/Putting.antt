@@ -6,7 +6,7 @@ use mathlib.Core.List.{List}
 use native.Mathlib.Omega.{arith}
 use lib.ListN.{length, length-append, length-drop}
 use borrow.Author.Tests.{le-leb}
-use Rattle.silk_text.specs.Answers.{laid}
+use Rattle.rules.specs.Sheet.{over}
 use Rattle.silk_print.specs.Print.{refusal_text, refusal_fits, printed_answer, printed_buffer}
 use Rattle.std.specs.Prelude.{Result, Ok}
 use Rattle.std.specs.Result.{result_unwrap_or}
@@ -27,6 +27,6 @@ unfolding refusal_fits
 refusal_put n {old} h = put (refusal_fits old) (refusal_text n) (le-leb 12 (length old) h)
 
 -- it ends within the buffer
-pub within : (text old : List ℕ) {new : List ℕ} → new ≡ laid 0 text old → length text ≤ length new
-unfolding laid
+pub within : (text old : List ℕ) {new : List ℕ} → new ≡ over text old → length text ≤ length new
+unfolding over
 within text old e = rw e (simp (length-append, length-drop) (omega arith))

@@ -6,9 +6,9 @@ use Rattle.base.specs.declared.Refusal.{Refusal}
 use Rattle.rules.specs.Entries.{run_answer, run_cells, run_palette}
 use Rattle.rules.specs.Calls.{RunCall}
 use Rattle.rules.specs.Palette.{palette_of}
-use Rattle.rules.specs.Sheet.{lent_sheet}
+use Rattle.rules.specs.Sheet.{lent_sheet, over}
 use Rattle.rules.specs.declared.Processed.{Processed}
-use Rattle.silk_text.specs.Answers.{laid, lent}
+use Rattle.silk_text.specs.Answers.{lent}
 use Rattle.silk_text.specs.Format.{File, parse}
 use Rattle.silk_print.specs.Print.{result_text, refusal_text}
 use Rattle.silk_reader.specs.Reader.{Got, got, refused}
@@ -71,5 +71,5 @@ pub record Ran (c : RunCall) (answer : Result Processed Refusal) (palette : List
 
 -- a text stands at the front of a buffer, and how many bytes it has is told
 pub record Front (text old new : List ℕ) (count : ℕ) : Type 0 where
-  pub list : new ≡ laid 0 text old
+  pub list : new ≡ over text old
   pub size : count ≡ length text

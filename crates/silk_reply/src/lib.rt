@@ -5,7 +5,7 @@ ghost use Rattle.std.specs.Prelude.{◌<◌, ◌≡◌, length, take, OnOk};
 ghost use Rattle.std.specs.Result.{result_and};
 ghost use Rattle.std.specs.Io.KnownBytes.{IsAtEnd, Appends, Consumes};
 ghost use Rattle.base.specs.Numbers.{number};
-ghost use Rattle.silk_text.specs.Answers.{laid};
+ghost use Rattle.rules.specs.Sheet.{over};
 ghost use Rattle.silk_print.specs.Print.{refusal_text};
 ghost use Rattle.silk_reply.specs.Reply.{call_of, sheet_text, silk_text, Ran, Front};
 
@@ -83,7 +83,7 @@ fn put_sheet(
 // Puts what the program prints for a text at the front of a buffer, and answers how many bytes that is.
 pub fn respond(text: &[u8], out: &mut [u8; ROOM]) -> usize
     ensures value { result ≡ length (silk_text text.now) }
-    ensures out_after { out.new ≡ laid 0 (silk_text text.now) out.old }
+    ensures out_after { out.new ≡ over (silk_text text.now) out.old }
 {
     let mut palette = [0.0; DOUBLES];
     let mut cells = [0i32; CELLS];
@@ -121,7 +121,7 @@ pub fn serve<R: Read, W: Write>(
     out: &mut [u8; ROOM],
 ) -> Served
     ensures put_value { result.put ≡ length (silk_text (take result.read text.new)) }
-    ensures out_after { out.new ≡ laid 0 (silk_text (take result.read text.new)) out.old }
+    ensures out_after { out.new ≡ over (silk_text (take result.read text.new)) out.old }
     ensures bytes_read { Consumes (R.remaining from.old) (R.remaining from.new) (take result.read text.new) }
     ensures text_end { OnOk result.whole (result.read < 65537 → IsAtEnd (R.remaining from.new)) }
     ensures bytes_written { OnOk result.written (Appends (W.contents to.old) (W.contents to.new) (silk_text (take result.read text.new))) }

@@ -1,5 +1,5 @@
 -- What was read, copied to the lent lists: how many doubles and cells there are, and what a refusal leaves. Assumes nothing.
-use Prim.Native.Nat.{ℕ, ◌+◌, ◌*◌, ◌≤◌}
+use Prim.Native.Nat.{ℕ, ◌*◌, ◌≤◌}
 use mathlib.Core.Path.{◌≡◌, refl, sym, ap, ◌∙◌, subst}
 use mathlib.Core.List.{List, [], ◌∷◌, ◌++◌, flat_map}
 use native.Mathlib.Omega.{arith}
@@ -9,12 +9,13 @@ use lib.ListN.{length, take, drop}
 use lib.Seq.{take_at}
 use borrow.Author.Tests.{le-leb}
 use Rattle.base.specs.declared.Refusal.{Refusal}
+use Rattle.rules.specs.Sheet.{over}
 use Rattle.silk_reader.specs.Lines.{colour_line, head}
 use Rattle.silk_reader.specs.Reader.{Got, got, refused, ◌>>=◌, give, series}
 use Rattle.silk_reader.specs.declared.head.Head.{Head}
 use Rattle.silk_reader.proofs.Chaining.{chain_first}
 use Rattle.silk_text.specs.Format.{doubles, colour_lines, row_line, row_lines, File, lists, file, ended, max_bytes, parse}
-use Rattle.silk_text.specs.Answers.{laid, lent, read_into}
+use Rattle.silk_text.specs.Answers.{lent, read_into}
 use Rattle.silk_text.proofs.Repeating.{series-size}
 use Rattle.silk_text.proofs.Whole.{Bounded, head-is, area, row-length, lent_got}
 
@@ -65,16 +66,16 @@ parse-small text e =
 
 -- ---- what reading leaves
 
-front : {A : Type 0} (n : ℕ) (new old : List A) → length new ≡ n → take n (laid 0 new old) ≡ new
-unfolding laid
-front n new old e = take_at new (drop (0 + length new) old) n e
+front : {A : Type 0} (n : ℕ) (new old : List A) → length new ≡ n → take n (over new old) ≡ new
+unfolding over
+front n new old e = take_at new (drop (length new) old) n e
 
 -- what lists of the code's own were read into, where they are copied from
 pub record Handed (text : List ℕ) (palette : List Float) (cells : List ℤ) (h : Head) (colours : List Float) (sheet : List ℤ) : Type 0 where
   pub few : 3 * h.colours ≤ 768
   pub held : h.height * h.width ≤ 1600
   pub read : read_into text palette cells ≡
-      got (record { head = h; palette = laid 0 (take (3 * h.colours) colours) palette; cells = laid 0 (take (h.height * h.width) sheet) cells }) []
+      got (record { head = h; palette = over (take (3 * h.colours) colours) palette; cells = over (take (h.height * h.width) sheet) cells }) []
 
 module _ (text : List ℕ) (palette : List Float) (cells : List ℤ) (a : 768 ≤ length palette) (b : 1600 ≤ length cells) where
   pub read_no : {e : Refusal} (ownPalette : List Float) (ownCells : List ℤ) → refused e ≡ lent ownPalette ownCells (parse text) → read_into text palette cells ≡ refused e
@@ -85,7 +86,7 @@ module _ (text : List ℕ) (palette : List Float) (cells : List ℤ) (a : 768 �
       none (got f rest) z = cc
       none (refused n) z = sym z
 
-  handed_file : (ownPalette : List Float) (ownCells : List ℤ) {f : File} → parse text ≡ got f [] → Handed text palette cells f.head (laid 0 f.palette ownPalette) (laid 0 f.cells ownCells)
+  handed_file : (ownPalette : List Float) (ownCells : List ℤ) {f : File} → parse text ≡ got f [] → Handed text palette cells f.head (over f.palette ownPalette) (over f.cells ownCells)
   unfolding read_into lent
   handed_file ownPalette ownCells {f} e =
       let s = parse-small text e in
@@ -100,7 +101,7 @@ module _ (text : List ℕ) (palette : List Float) (cells : List ℤ) (a : 768 �
   handed {h} {colours} {sheet} ownPalette ownCells q =
       let l = lent_got ownPalette ownCells (parse text) (sym q) in
       let x : l.file.head ≡ h = ap (λ (x : File). x.head) l.same in
-      let y : laid 0 l.file.palette ownPalette ≡ colours = ap (λ (x : File). x.palette) l.same in
-      let z : laid 0 l.file.cells ownCells ≡ sheet = ap (λ (x : File). x.cells) l.same in
+      let y : over l.file.palette ownPalette ≡ colours = ap (λ (x : File). x.palette) l.same in
+      let z : over l.file.cells ownCells ≡ sheet = ap (λ (x : File). x.cells) l.same in
       let r = handed_file ownPalette ownCells l.read in
       rw (x, y, z) at r

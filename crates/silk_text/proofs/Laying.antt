@@ -2,7 +2,7 @@
 use Prim.Native.Nat.{ℕ, suc, ◌+◌, ◌*◌, ◌≤◌, ◌<◌}
 use mathlib.Core.Path.{◌≡◌, refl, sym, ap, ◌∙◌}
 use mathlib.Core.List.{List, [], ◌∷◌, ◌++◌, append_assoc, append-nil}
-use native.Mathlib.Nat.{add-zero, add_assoc}
+use native.Mathlib.Nat.{add-zero, zero-add, add_assoc}
 use native.Mathlib.Omega.{arith}
 use lib.Ieee.{Float}
 use lib.ListN.{length, take, drop, set, length-append, length-drop, take-append-drop, drop_of_length-le}
@@ -14,10 +14,10 @@ use Rattle.base.specs.declared.Refusal.{Refusal}
 use Rattle.color.specs.Lab.{rgb8_to_lab}
 use Rattle.color.specs.declared.Rgb8.{Rgb8}
 use Rattle.rules.specs.Palette.{recoloured}
-use Rattle.silk_reader.specs.Reader.{Got, got, refused, Reader, chain, give}
+use Rattle.rules.specs.Sheet.{over}
+use Rattle.silk_reader.specs.Reader.{got, refused, Reader}
 use Rattle.silk_text.specs.Format.{doubles}
 use Rattle.silk_text.specs.Answers.{laid, onto}
-use Rattle.silk_reader.proofs.Chaining.{chain_first}
 
 module _ {A : Type 0} where
   pub laid_none : (at : ℕ) (old : List A) → old ≡ laid at [] old
@@ -64,10 +64,31 @@ module _ {A : Type 0} where
       ∙ paste_all old at new (length new) refl
       ∙ sym (append_assoc (take at old) new (drop (at + length new) old))
 
-  -- a list laid over one as long
-  pub laid_whole : (new old : List A) → length new ≡ length old → laid 0 new old ≡ new
-  unfolding laid
-  laid_whole new old e = rw (drop_of_length-le old {i = 0 + length new} (omega arith)) (append-nil new)
+  -- ---- from the first place on
+
+  pub laid_over : (new old : List A) → laid 0 new old ≡ over new old
+  unfolding laid over
+  laid_over new old = ap (λ (k : ℕ). new ++ drop k old) (zero-add (length new))
+
+  pub over_none : (old : List A) → old ≡ over [] old
+  unfolding over
+  over_none old = refl
+
+  pub over-length : (s old : List A) → length s ≤ length old → length (over s old) ≡ length old
+  unfolding over
+  over-length s old h = length-append s (drop (length s) old) ∙ omega (arith, length-drop (length s) old)
+
+  pub over_more : (s t old : List A) → length s ≤ length old → laid (length s) t (over s old) ≡ over (s ++ t) old
+  over_more s t old h =
+      ap (laid (length s) t) (sym (laid_over s old))
+      ∙ ap (λ (k : ℕ). laid k t (laid 0 s old)) (sym (zero-add (length s)))
+      ∙ laid_more 0 s t old (omega arith)
+      ∙ laid_over (s ++ t) old
+
+  -- a list over one as long
+  pub over_whole : (new old : List A) → length new ≡ length old → over new old ≡ new
+  unfolding over
+  over_whole new old e = rw (drop_of_length-le old {i = length new} (omega arith)) (append-nil new)
 
 -- a colour that is written to the entry i
 pub recoloured-laid : (palette : List Float) (i : ℕ) (c : Rgb8) → 3 * i + 3 ≤ length palette → recoloured palette i (rgb8_to_lab c) ≡ laid (3 * i) (doubles c) palette
@@ -77,34 +98,12 @@ recoloured-laid palette i c h =
     let b : 3 * i + 2 ≡ suc (suc (3 * i)) = omega arith in
     rw (a, b) (laid_sets (3 * i) (doubles c) palette (omega arith))
 
--- ---- what a reading lays over a list
+-- ---- what a reading writes over a list
 
--- what a reading onto a list says of the reading
-pub record Read {A : Type 0} (g : Got (List A)) (at : ℕ) (old new : List A) (rest : List ℕ) : Type 0 where
-  pub values : List A
-  pub read : g ≡ got values rest
-  pub list : laid at values old ≡ new
-
-pub onto_got : {A : Type 0} (at : ℕ) (old : List A) (p : Reader (List A)) (text : List ℕ) {new : List A} {rest : List ℕ} → onto at old p text ≡ got new rest → Read (p text) at old new rest
+pub onto_yes : {A : Type 0} (old : List A) (p : Reader (List A)) (text : List ℕ) {l : List A} {rest : List ℕ} → p text ≡ got l rest → {new : List A} → over l old ≡ new → onto old p text ≡ got new rest
 unfolding onto
-onto_got at old p text {new} {rest} e =
-    let a = chain_first (p text) (λ l. give (laid at l old)) e in
-    let t : got (laid at a.value old) a.rest ≡ got new rest = a.then in
-    let q : a.rest ≡ rest = cc in
-    record { values = a.value; read = a.read ∙ ap (got a.value) q; list = cc }
+onto_yes old p text e f = rw (e, f)
 
-pub onto_no : {A : Type 0} (at : ℕ) (old : List A) (p : Reader (List A)) (text : List ℕ) {n : Refusal} → onto at old p text ≡ refused n → p text ≡ refused n
+pub onto_not : {A : Type 0} (old : List A) (p : Reader (List A)) (text : List ℕ) {n : Refusal} → p text ≡ refused n → onto old p text ≡ refused n
 unfolding onto
-onto_no {A = A} at old p text {n} e = go (p text) refl e
-  where
-    go : (g : Got (List A)) → p text ≡ g → chain g (λ l. give (laid at l old)) ≡ refused n → p text ≡ refused n
-    go (got l rest) q t = cc
-    go (refused m) q t = q ∙ t
-
-pub onto_yes : {A : Type 0} (at : ℕ) (old : List A) (p : Reader (List A)) (text : List ℕ) {l : List A} {rest : List ℕ} → p text ≡ got l rest → {new : List A} → laid at l old ≡ new → onto at old p text ≡ got new rest
-unfolding onto
-onto_yes at old p text e f = rw (e, f)
-
-pub onto_not : {A : Type 0} (at : ℕ) (old : List A) (p : Reader (List A)) (text : List ℕ) {n : Refusal} → p text ≡ refused n → onto at old p text ≡ refused n
-unfolding onto
-onto_not at old p text e = rw e
+onto_not old p text e = rw e

@@ -1,4 +1,4 @@
--- A loop that reads a series of values, and lays what each comes to over a list. Assumes nothing.
+-- A loop that reads a series of values, and writes what each comes to over a list. Assumes nothing.
 use Prim.Native.Nat.{ℕ, zero, suc, ◌+◌, ◌-◌, ◌*◌, ◌≤◌, ◌<◌}
 use mathlib.Core.Path.{◌≡◌, refl, sym, ap, ◌∙◌}
 use mathlib.Core.List.{List, [], ◌∷◌, ◌++◌, append_assoc, append-nil, flat_map}
@@ -8,9 +8,10 @@ use native.Mathlib.Omega.{arith}
 use lib.ListN.{length, length-append}
 use Rattle.base.specs.declared.Refusal.{Refusal}
 use Rattle.silk_reader.specs.Reader.{Got, got, refused, Reader, chain, series}
+use Rattle.rules.specs.Sheet.{over}
 use Rattle.silk_text.specs.Answers.{laid}
 use Rattle.silk_reader.proofs.Chaining.{chain_first}
-use Rattle.silk_text.proofs.Laying.{laid_none, laid-length, laid_more, laid_whole}
+use Rattle.silk_text.proofs.Laying.{laid-length, over_none, over_more, over_whole}
 
 module _ {A B : Type 0} where
   pub flat_map_append : (f : A → List B) (s t : List A) → flat_map f (s ++ t) ≡ flat_map f s ++ flat_map f t
@@ -19,11 +20,11 @@ module _ {A B : Type 0} where
   flat_map_append f (x ∷ s) t = ap (λ (l : List B). f x ++ l) (flat_map_append f s t) ∙ sym (append_assoc (f x) (flat_map f s) (flat_map f t))
 
   -- with i of the n values read, each of them m elements, the list is `now` and the text `rest` is left
-  pub record Going (p : ℕ → Reader A) (put : A → List B) (m n : ℕ) (text : List ℕ) (at : ℕ) (old : List B) (i : ℕ) (rest : List ℕ) (now : List B) : Type 0 where
+  pub record Going (p : ℕ → Reader A) (put : A → List B) (m n : ℕ) (text : List ℕ) (old : List B) (i : ℕ) (rest : List ℕ) (now : List B) : Type 0 where
     pub read : List A
     pub size : length (flat_map put read) ≡ i * m
     pub parse : series 0 n p text ≡ chain (series i (n - i) p rest) (λ xs end. got (read ++ xs) end)
-    pub list : now ≡ laid at (flat_map put read) old
+    pub list : now ≡ over (flat_map put read) old
     pub kept : length now ≡ length old
 
 -- a series, taken apart
@@ -43,33 +44,33 @@ chain_cons : {A : Type 0} (s : List A) (x : A) (g : Got (List A)) → chain (cha
 chain_cons {A = A} s x (got xs rest) = ap (λ (l : List A). got l rest) (sym (append_assoc s (x ∷ []) xs))
 chain_cons s x (refused n) = refl
 
-module _ {A B : Type 0} {p : ℕ → Reader A} {put : A → List B} (m n : ℕ) {text : List ℕ} (at : ℕ) {old : List B} where
-  pub going_none : Going p put m n text at old 0 text old
+module _ {A B : Type 0} {p : ℕ → Reader A} {put : A → List B} (m n : ℕ) {text : List ℕ} {old : List B} where
+  pub going_none : Going p put m n text old 0 text old
   unfolding flat_map
   going_none =
       record {
         read = [];
         size = sym (zero-mul m);
         parse = rw (sub-zero n) (chain_got (series 0 n p text));
-        list = laid_none at old;
+        list = over_none old;
         kept = refl;
       }
 
-  module _ {i : ℕ} {rest : List ℕ} {now : List B} (g : Going p put m n text at old i rest now) where
-    pub going_more : i < n → {x : A} {end : List ℕ} → p i rest ≡ got x end → length (put x) ≡ m → at + (i + 1) * m ≤ length old → {place : ℕ} {new : List B} → new ≡ laid place (put x) now → place ≡ at + i * m → Going p put m n text at old (i + 1) end new
+  module _ {i : ℕ} {rest : List ℕ} {now : List B} (g : Going p put m n text old i rest now) where
+    pub going_more : i < n → {x : A} {end : List ℕ} → p i rest ≡ got x end → length (put x) ≡ m → (i + 1) * m ≤ length old → {place : ℕ} {new : List B} → new ≡ laid place (put x) now → place ≡ i * m → Going p put m n text old (i + 1) end new
     unfolding flat_map
     going_more h {x} {end} e l k {place} {new} st pl =
         let d : (i + 1) * m ≡ i * m + m = rw (add-one i) (suc-mul i m) in
         let s = g.read in
-        let new_is : new ≡ laid (at + i * m) (put x) now = st ∙ ap (λ (k : ℕ). laid k (put x) now) pl in
+        let new_is : new ≡ laid (i * m) (put x) now = st ∙ ap (λ (k : ℕ). laid k (put x) now) pl in
         let q : flat_map put (s ++ x ∷ []) ≡ flat_map put s ++ put x = flat_map_append put s (x ∷ []) ∙ ap (λ (r : List B). flat_map put s ++ r) (append-nil (put x)) in
         let c : n - i ≡ suc (n - suc i) = omega arith in
         record {
           read = s ++ x ∷ [];
           size = ap length q ∙ length-append (flat_map put s) (put x) ∙ omega (arith, g.size);
           parse = g.parse ∙ rw (c, series_some i (n - suc i) p rest, e, add-one i) (chain_cons s x (series (suc i) (n - suc i) p end));
-          list = new_is ∙ ap (λ (b : List B). laid (at + i * m) (put x) b) g.list ∙ rw (← g.size) (laid_more at (flat_map put s) (put x) old (omega (arith, g.size))) ∙ ap (λ (r : List B). laid at r old) (sym q);
-          kept = ap length new_is ∙ laid-length (at + i * m) (put x) now (omega (arith, g.kept)) ∙ g.kept;
+          list = new_is ∙ ap (λ (b : List B). laid (i * m) (put x) b) g.list ∙ rw (← g.size) (over_more (flat_map put s) (put x) old (omega (arith, g.size))) ∙ ap (λ (r : List B). over r old) (sym q);
+          kept = ap length new_is ∙ laid-length (i * m) (put x) now (omega (arith, g.kept)) ∙ g.kept;
         }
 
     pub going_refused : i < n → {k : Refusal} → p i rest ≡ refused k → series 0 n p text ≡ refused k
@@ -88,13 +89,13 @@ singles [] = refl
 singles {A = A} (x ∷ l) = ap (λ (t : List A). x ∷ t) (singles l)
 
 -- a list that is filled by a series of its own length
-pub going_whole : {A : Type 0} {p : ℕ → Reader A} {text : List ℕ} {old : List A} {i : ℕ} {rest : List ℕ} {now : List A} → Going p (λ x. x ∷ []) 1 (length old) text 0 old i rest now →
+pub going_whole : {A : Type 0} {p : ℕ → Reader A} {text : List ℕ} {old : List A} {i : ℕ} {rest : List ℕ} {now : List A} → Going p (λ x. x ∷ []) 1 (length old) text old i rest now →
     i ≡ length old → got now rest ≡ series 0 (length old) p text
 going_whole {A = A} {old = old} {rest = rest} g e =
     let s = singles g.read in
     let n : length g.read ≡ length old = sym (ap length s) ∙ omega (arith, g.size) in
-    let l = g.list ∙ ap (λ (x : List A). laid 0 x old) s ∙ laid_whole g.read old n in
-    sym (going_all 1 _ 0 g (omega arith) ∙ ap (λ (x : List A). got x rest) (sym l))
+    let l = g.list ∙ ap (λ (x : List A). over x old) s ∙ over_whole g.read old n in
+    sym (going_all 1 _ g (omega arith) ∙ ap (λ (x : List A). got x rest) (sym l))
 
 -- n values of a series come to n times m elements, if each comes to m
 pub series-size : {A B : Type 0} (p : ℕ → Reader A) (put : A → List B) (m : ℕ) → ((i : ℕ) (text : List ℕ) (x : A) (end : List ℕ) → p i text ≡ got x end → length (put x) ≡ m) →

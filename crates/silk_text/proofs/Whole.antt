@@ -16,10 +16,11 @@ use Rattle.base.specs.declared.Refusal.{Refusal}
 use Rattle.base.specs.declared.Refusal.TheVariants.{SideTooLong, WrongLength, Malformed}
 use Rattle.base.specs.Refusals.{refusal, unless}
 use Rattle.base.proofs.Counting.{case}
+use Rattle.rules.specs.Sheet.{over}
 use Rattle.silk_reader.specs.Reader.{Got, got, refused, chain, ◌>>=◌, ◌>>◌, give, bytes, newline, codes, series, cell_at}
 use Rattle.silk_reader.specs.Lines.{sizes, passes, outline_line, last_settings, head_of, checked_head, head_end, head}
 use Rattle.silk_text.specs.Format.{colour_lines, row_line, row_lines, File, lists, file, ended, max_bytes, parse}
-use Rattle.silk_text.specs.Answers.{laid, onto, lent}
+use Rattle.silk_text.specs.Answers.{onto, lent}
 use Rattle.silk_reader.specs.declared.head.Head.{Head}
 use Rattle.silk_reader.proofs.Chaining.{chain_first}
 use Rattle.silk_text.proofs.Repeating.{series-length}
@@ -111,11 +112,11 @@ module _ (h : Head) (text : List ℕ) where
     unfolding lists
     lists_yes f = rw (e, f)
 
--- what a file laid over lent lists says of the file
+-- what a file written over lent lists says of the file
 pub record Lent (palette : List Float) (cells : List ℤ) (g : Got File) (e : File) (rest : List ℕ) : Type 0 where
   pub file : File
   pub read : g ≡ got file rest
-  pub same : record { head = file.head; palette = laid 0 file.palette palette; cells = laid 0 file.cells cells } ≡ e
+  pub same : record { head = file.head; palette = over file.palette palette; cells = over file.cells cells } ≡ e
 
 pub lent_got : (palette : List Float) (cells : List ℤ) (g : Got File) {e : File} {rest : List ℕ} → lent palette cells g ≡ got e rest → Lent palette cells g e rest
 unfolding lent
@@ -123,23 +124,23 @@ lent_got palette cells (got f end) {e} {rest} q =
     let s : end ≡ rest = cc in record { file = f; read = ap (got f) s; same = cc }
 lent_got palette cells (refused n) q = cc
 
--- what a reading lays over lent lists, one step after the other
+-- what a reading writes over lent lists, one step after the other
 
 pub lists_steps : (palette : List Float) (cells : List ℤ) (h : Head) (text : List ℕ) →
     lent palette cells (lists h text) ≡
-    chain (onto 0 palette (colour_lines h.colours) text) (λ p rest. chain (onto 0 cells (row_lines h.height h.width) rest) (λ c end. got (record { head = h; palette = p; cells = c }) end))
+    chain (onto palette (colour_lines h.colours) text) (λ p rest. chain (onto cells (row_lines h.height h.width) rest) (λ c end. got (record { head = h; palette = p; cells = c }) end))
 unfolding lent lists onto
 lists_steps palette cells h text = colours (colour_lines h.colours text)
   where
     rows : (p : List Float) (g : Got (List ℤ)) →
         lent palette cells (chain g (λ c. give (record { head = h; palette = p; cells = c }))) ≡
-        chain (chain g (λ c. give (laid 0 c cells))) (λ c end. got (record { head = h; palette = laid 0 p palette; cells = c }) end)
+        chain (chain g (λ c. give (over c cells))) (λ c end. got (record { head = h; palette = over p palette; cells = c }) end)
     rows p (got c end) = refl
     rows p (refused e) = refl
 
     colours : (g : Got (List Float)) →
         lent palette cells (chain g (λ p. row_lines h.height h.width >>= λ c. give (record { head = h; palette = p; cells = c }))) ≡
-        chain (chain g (λ p. give (laid 0 p palette))) (λ p rest. chain (chain (row_lines h.height h.width rest) (λ c. give (laid 0 c cells))) (λ c end. got (record { head = h; palette = p; cells = c }) end))
+        chain (chain g (λ p. give (over p palette))) (λ p rest. chain (chain (row_lines h.height h.width rest) (λ c. give (over c cells))) (λ c end. got (record { head = h; palette = p; cells = c }) end))
     colours (got p rest) = rows p (row_lines h.height h.width rest)
     colours (refused e) = refl
 
@@ -154,7 +155,7 @@ file_steps palette cells text = steps (head text)
 -- ---- the text's end
 
 ended_lent : (palette : List Float) (cells : List ℤ) (f : File) (l : List ℕ) →
-    lent palette cells (ended f l) ≡ ended (record { head = f.head; palette = laid 0 f.palette palette; cells = laid 0 f.cells cells }) l
+    lent palette cells (ended f l) ≡ ended (record { head = f.head; palette = over f.palette palette; cells = over f.cells cells }) l
 unfolding lent ended
 ended_lent palette cells f [] = refl
 ended_lent palette cells f (x ∷ l) = refl

@@ -1,5 +1,6 @@
 -- Lists that are filled by reading, and what the answers leave in them. Definitions only. Assumes nothing.
 use Rattle.std.specs.Prelude.{ℕ, ◌+◌, ◌&&◌, cond, leb, List, ◌++◌, ℤ, length, take, drop, Float, Result, Ok, Err}
+use Rattle.rules.specs.Sheet.{over}
 use Rattle.silk_reader.specs.Reader.{Got, got, refused, Reader, chain, ◌>>=◌, give}
 use Rattle.silk_text.specs.Format.{File, parse}
 use Rattle.silk_reader.specs.Answers.{answer}
@@ -11,18 +12,18 @@ use Rattle.silk_reader.specs.declared.head.Head.{Head}
 unfoldable pub laid : {A : Type 0} → ℕ → List A → List A → List A
 laid at new old = take at old ++ new ++ drop (at + length new) old
 
--- what a reader reads, laid over a list
-unfoldable pub onto : {A : Type 0} → ℕ → List A → Reader (List A) → Reader (List A)
-onto at old p = p >>= λ new. give (laid at new old)
+-- what a reader reads, written over a list
+unfoldable pub onto : {A : Type 0} → List A → Reader (List A) → Reader (List A)
+onto old p = p >>= λ new. give (over new old)
 
 -- the list that a reading leaves; after a refusal it is free
 abbrev pub got_list : {A : Type 0} → Result Unit Refusal → List A → List ℕ → Got (List A)
 got_list r l rest = chain (answer r rest) (λ _. give l)
 
--- what was read, with its palette and cells laid over lent ones
+-- what was read, with its palette and cells written over lent ones
 unfoldable pub lent : List Float → List ℤ → Got File → Got File
 lent palette cells g =
-    chain g (λ f. give (record { head = f.head; palette = laid 0 f.palette palette; cells = laid 0 f.cells cells }))
+    chain g (λ f. give (record { head = f.head; palette = over f.palette palette; cells = over f.cells cells }))
 
 -- a head that was read, and the palette and cells that it leaves; after a refusal they are free
 abbrev pub got_file : Result Head Refusal → List Float → List ℤ → List ℕ → Got File

@@ -2,7 +2,8 @@
 ghost use Rattle.std.specs.Prelude.{◌≡◌, ◌+◌, ◌*◌, ◌≤◌, [], length, take};
 ghost use Rattle.silk_reader.specs.Reader.{series, cell_at};
 ghost use Rattle.silk_text.specs.Format.{colour_lines, row_line, row_lines, lists, file, parse};
-ghost use Rattle.silk_text.specs.Answers.{laid, onto, got_list, lent, got_file, read_into, read_answer, read_palette, read_cells};
+ghost use Rattle.rules.specs.Sheet.{over};
+ghost use Rattle.silk_text.specs.Answers.{onto, got_list, lent, got_file, read_into, read_answer, read_palette, read_cells};
 
 use base::Refusal;
 use color::cielab::rgb8_to_lab_one;
@@ -13,7 +14,7 @@ use silk_reader::head::Head;
 // Colour lines, into the front of a palette.
 fn read_colours(text: &mut Cursor, colours: usize, palette: &mut [f64]) -> Result<(), Refusal>
     requires { 3 * colours ≤ length palette.old }
-    ensures { got_list result palette.new text.new ≡ onto 0 palette.old (colour_lines colours) text.old }
+    ensures { got_list result palette.new text.new ≡ onto palette.old (colour_lines colours) text.old }
 {
     for i in 0..colours {
         let c = text.colour_line()?;
@@ -45,7 +46,7 @@ fn read_row(text: &mut Cursor, row: &mut [i32]) -> Result<(), Refusal>
 // All rows, into the front of the cells.
 fn read_rows(text: &mut Cursor, h: usize, w: usize, cells: &mut [i32]) -> Result<(), Refusal>
     requires { h * w ≤ length cells.old }
-    ensures { got_list result cells.new text.new ≡ onto 0 cells.old (row_lines h w) text.old }
+    ensures { got_list result cells.new text.new ≡ onto cells.old (row_lines h w) text.old }
 {
     for y in 0..h {
         read_row(text, &mut cells[y * w..(y + 1) * w])?;
@@ -99,7 +100,7 @@ fn read_text(text: &[u8], palette: &mut [f64], cells: &mut [i32]) -> Result<Head
 // Copies the first n elements of a list to the front of another.
 fn copy_front<T: Copy>(from: &[T], n: usize, to: &mut [T])
     requires { (n ≤ length from.now) × (n ≤ length to.old) }
-    ensures { to.new ≡ laid 0 (take n from.now) to.old }
+    ensures { to.new ≡ over (take n from.now) to.old }
 {
     to[..n].copy_from_slice(&from[..n]);
 }

@@ -1,16 +1,16 @@
 -- What `respond` answers ends within the buffer, and is what is written.
-use Rattle.std.proofs.Common.{◌≡◌, ℕ, ◌+◌, List, length, take, drop, OnOk, sym, ap, subst, ◌∙◌, arith, length-take-le}
+use Rattle.std.proofs.Common.{◌≡◌, ℕ, List, length, take, drop, OnOk, sym, ap, subst, ◌∙◌, arith, length-take-le}
 use Rattle.std.proofs.Math.Seq.{take-append_seam}
 use Rattle.std.specs.Io.KnownBytes.{Appends}
-use Rattle.silk_text.specs.Answers.{laid}
+use Rattle.rules.specs.Sheet.{over}
 use Rattle.silk_reply.specs.Reply.{silk_text}
 use Rattle.silk_reply.proofs.Putting.{within}
 use Rattle.silk_reply.proofs.serve.Goals as goal
 
--- a text that was laid over the front of a buffer stands there
-front : (text old : List ℕ) {new : List ℕ} → new ≡ laid 0 text old → take (length text) new ≡ text
-unfolding laid
-front text old e = rw e (take-append_seam text (drop (0 + length text) old))
+-- a text that was written over the front of a buffer stands there
+front : (text old : List ℕ) {new : List ℕ} → new ≡ over text old → take (length text) new ≡ text
+unfolding over
+front text old e = rw e (take-append_seam text (drop (length text) old))
 
 pub slice_bounds-write_all-end : goal.slice_bounds-write_all-end
 slice_bounds-write_all-end g c =
