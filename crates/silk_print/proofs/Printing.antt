@@ -4,7 +4,7 @@ use mathlib.Core.List.{flat_map}
 use native.Mathlib.Nat.{sub-zero, suc-mul, le_refl}
 use Rattle.base.specs.Places.{table_from, table}
 use Rattle.base.proofs.Counting.{table_same}
-use Rattle.silk_print.specs.Print.{each, Put, Room}
+use Rattle.silk_print.specs.Print.{each, Put, HasRoom}
 use Rattle.silk_print.specs.declared.Printer.{Printer}
 use Rattle.silk_text.specs.Answers.{laid}
 use Rattle.silk_text.proofs.Laying.{laid_none, laid-length, laid_more}
@@ -16,7 +16,7 @@ pub put_none : (p : Printer) → Put 0 [] p p
 put_none p = record { short = omega arith; list = laid_none p.at p.out.now; next = sym (add-zero p.at); kept = refl; same = refl }
 
 -- what is left of a printer that put a text
-pub put_laid : {text : List ℕ} {a b : Printer} → Room (length text) a → b.out.now ≡ laid a.at text a.out.now → b.at ≡ a.at + length text → b.out.ghost_name ≡ a.out.ghost_name → Put (length text) text a b
+pub put_laid : {text : List ℕ} {a b : Printer} → HasRoom (length text) a → b.out.now ≡ laid a.at text a.out.now → b.at ≡ a.at + length text → b.out.ghost_name ≡ a.out.ghost_name → Put (length text) text a b
 put_laid {text} {a} h e f g = record { short = le_refl (length text); list = e; next = f; kept = ap length e ∙ laid-length a.at text a.out.now h; same = g }
 
 -- a text that is the same, with a bound that is no less
@@ -30,7 +30,7 @@ put_as {a = a} p q h =
       same = p.same;
     }
 
-pub put_both : {m n : ℕ} {s t : List ℕ} {a b c : Printer} → Put m s a b → Put n t b c → Room m a → Put (m + n) (s ++ t) a c
+pub put_both : {m n : ℕ} {s t : List ℕ} {a b c : Printer} → Put m s a b → Put n t b c → HasRoom m a → Put (m + n) (s ++ t) a c
 put_both {s = s} {t = t} {a = a} {b = b} p q h =
     record {
       short = omega (arith, length-append s t, p.short, q.short);
@@ -45,7 +45,7 @@ put_both {s = s} {t = t} {a = a} {b = b} p q h =
     }
 
 -- three texts
-pub put_three : {m n k : ℕ} {s t u : List ℕ} {a b c d : Printer} → Put m s a b → Put n t b c → Put k u c d → Room (m + n + k) a → Put (m + n + k) (s ++ t ++ u) a d
+pub put_three : {m n k : ℕ} {s t u : List ℕ} {a b c d : Printer} → Put m s a b → Put n t b c → Put k u c d → HasRoom (m + n + k) a → Put (m + n + k) (s ++ t ++ u) a d
 put_three p q r h = put_both (put_both p q (omega arith)) r (omega arith)
 
 -- ---- loops
@@ -78,11 +78,11 @@ unfolding each_from flat_map table_from
 from_none f i = refl
 
 module _ {f : ℕ → List ℕ} {m n : ℕ} {a : Printer} {i : ℕ} {b : Printer} (g : Printing f m n a i b) where
-  pub printing_room : i < n → Room (n * m) a → Room m b
+  pub printing_room : i < n → HasRoom (n * m) a → HasRoom m b
   printing_room h r =
       omega (arith, g.put.next, g.put.short, g.put.kept, row_fits n m (n * m) i (le_refl (n * m)) h)
 
-  pub printing_more : i < n → Room (n * m) a → {c : Printer} → Put m (f i) b c → Printing f m n a (i + 1) c
+  pub printing_more : i < n → HasRoom (n * m) a → {c : Printer} → Put m (f i) b c → Printing f m n a (i + 1) c
   printing_more h r p =
       let c : n - i ≡ suc (n - suc i) = omega arith in
       let next : (i + 1) * m ≡ i * m + m = rw (add-one i) (suc-mul i m) in

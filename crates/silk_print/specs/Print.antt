@@ -140,8 +140,8 @@ unfoldable pub printed_buffer : Bool → List ℕ → List ℕ → List ℕ
 printed_buffer fits text out = cond fits (over text out) out
 
 -- room for n more bytes
-abbrev pub Room : ℕ → Printer → Type 0
-Room n p = p.at + n ≤ length p.out.now
+abbrev pub HasRoom : ℕ → Printer → Type 0
+HasRoom n p = p.at + n ≤ length p.out.now
 
 -- a text of at most n bytes is put, and the place after it comes next; the buffer is the one that was lent
 pub record Put (n : ℕ) (text : List ℕ) (old new : Printer) : Type 0 where
@@ -156,4 +156,4 @@ pub record Printable (facts : Facts) (palette : List Float) (cells : List ℤ) (
   pub sizes : SizesInRange facts
   pub entries : 3 * facts.colours ≤ length palette
   pub sheet : facts.height * facts.width ≤ length cells
-  pub room : Room (room_for facts) p
+  pub room : HasRoom (room_for facts) p

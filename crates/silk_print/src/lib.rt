@@ -4,7 +4,7 @@
 ghost use Rattle.std.specs.Prelude.{◌≡◌, [], ◌∷◌, ◌+◌, ◌*◌, ◌^◌, ◌≤◌, ◌<◌, length};
 ghost use Rattle.base.specs.Numbers.{number};
 ghost use Rattle.rules.specs.Entries.{SizesInRange};
-ghost use Rattle.silk_print.specs.Print.{numeral, signed_numeral, hex_digit, hex_byte, hex_colour, number_text, index_text, clipped_text, head_text, colour_text, colours_text, cell_text, cells_text, row_text, rows_text, result_text, refusal_text, lengths_fit, result_fits, refusal_fits, printed_answer, printed_buffer, Put, Room, Printable, room_for, sizes_text};
+ghost use Rattle.silk_print.specs.Print.{numeral, signed_numeral, hex_digit, hex_byte, hex_colour, number_text, index_text, clipped_text, head_text, colour_text, colours_text, cell_text, cells_text, row_text, rows_text, result_text, refusal_text, lengths_fit, result_fits, refusal_fits, printed_answer, printed_buffer, Put, HasRoom, Printable, room_for, sizes_text};
 
 use base::Refusal;
 use color::Rgb8;
@@ -45,7 +45,7 @@ impl<'a> Printer<'a> {
 
     // One byte.
     fn put_byte(&mut self, b: u8)
-        requires { Room 1 self.old }
+        requires { HasRoom 1 self.old }
         ensures { Put 1 (b ∷ []) self.old self.new }
     {
         self.out[self.at] = b;
@@ -54,7 +54,7 @@ impl<'a> Printer<'a> {
 
     // Bytes, one after the other.
     fn put_bytes(&mut self, bytes: &[u8])
-        requires { Room (length bytes.now) self.old }
+        requires { HasRoom (length bytes.now) self.old }
         ensures { Put (length bytes.now) bytes.now self.old self.new }
     {
         let end = self.at + bytes.len();
@@ -64,7 +64,7 @@ impl<'a> Printer<'a> {
 
     // A number in decimal.
     fn put_number(&mut self, n: usize)
-        requires { Room (length (numeral n)) self.old }
+        requires { HasRoom (length (numeral n)) self.old }
         ensures { Put (length (numeral n)) (numeral n) self.old self.new }
     {
         let mut digits = Buffer::new();
@@ -73,7 +73,7 @@ impl<'a> Printer<'a> {
 
     // Two hex digits.
     fn put_hex_byte(&mut self, b: u8)
-        requires { Room 2 self.old }
+        requires { HasRoom 2 self.old }
         ensures { Put 2 (hex_byte b) self.old self.new }
     {
         self.put_byte(digit(b / 16));
@@ -82,7 +82,7 @@ impl<'a> Printer<'a> {
 
     // Six hex digits.
     fn put_hex_colour(&mut self, c: Rgb8)
-        requires { Room 6 self.old }
+        requires { HasRoom 6 self.old }
         ensures { Put 6 (hex_colour c) self.old self.new }
     {
         self.put_hex_byte(c.r);
@@ -92,7 +92,7 @@ impl<'a> Printer<'a> {
 
     // The line of a colour.
     fn put_colour_line(&mut self, c: Rgb8)
-        requires { Room 14 self.old }
+        requires { HasRoom 14 self.old }
         ensures { Put 14 (colour_text c) self.old self.new }
     {
         self.put_bytes(b"colour=");
@@ -102,7 +102,7 @@ impl<'a> Printer<'a> {
 
     // A cell in decimal, after a minus if it is below 0.
     fn put_signed(&mut self, c: i32)
-        requires { Room 11 self.old }
+        requires { HasRoom 11 self.old }
         ensures { Put 11 (signed_numeral c) self.old self.new }
     {
         let mut digits = Buffer::new();
@@ -111,7 +111,7 @@ impl<'a> Printer<'a> {
 
     // The cell of column x, after a comma unless it is the first.
     fn put_cell(&mut self, x: usize, c: i32)
-        requires { Room 12 self.old }
+        requires { HasRoom 12 self.old }
         ensures { Put 12 (cell_text x c) self.old self.new }
     {
         if x != FIRST_COLUMN {
@@ -122,7 +122,7 @@ impl<'a> Printer<'a> {
 
     // The cells of a row.
     fn put_cells(&mut self, row: &[i32])
-        requires { Room (length row.now * 12) self.old }
+        requires { HasRoom (length row.now * 12) self.old }
         ensures { Put (length row.now * 12) (cells_text row.now 0 (length row.now)) self.old self.new }
     {
         for (x, c) in row.iter().enumerate() {
@@ -132,7 +132,7 @@ impl<'a> Printer<'a> {
 
     // The line of a row.
     fn put_row(&mut self, row: &[i32])
-        requires { Room (5 + 12 * length row.now) self.old }
+        requires { HasRoom (5 + 12 * length row.now) self.old }
         ensures { Put (5 + 12 * length row.now) (row_text row.now 0 (length row.now)) self.old self.new }
     {
         self.put_bytes(b"row=");
@@ -142,7 +142,7 @@ impl<'a> Printer<'a> {
 
     // The lines of all rows.
     fn put_rows(&mut self, cells: &[i32], h: usize, w: usize)
-        requires { (h * w ≤ length cells.now) × Room (h * (5 + 12 * w)) self.old }
+        requires { (h * w ≤ length cells.now) × HasRoom (h * (5 + 12 * w)) self.old }
         ensures { Put (h * (5 + 12 * w)) (rows_text cells.now h w) self.old self.new }
     {
         for y in 0..h {
@@ -153,7 +153,7 @@ impl<'a> Printer<'a> {
 
     // The lines of all colours.
     fn put_colours(&mut self, entries: Entries<'_>)
-        requires { Room (entries.k * 14) self.old }
+        requires { HasRoom (entries.k * 14) self.old }
         ensures { let e = entries.entry in Put (e.k * 14) (colours_text e.lab.now e.k) self.old self.new }
     {
         for i in 0..entries.k {
@@ -163,7 +163,7 @@ impl<'a> Printer<'a> {
 
     // A line of a key and a number.
     fn put_number_line(&mut self, key: &[u8], n: usize)
-        requires { (n < 10 ^ 10) × Room (length key.now + 11) self.old }
+        requires { (n < 10 ^ 10) × HasRoom (length key.now + 11) self.old }
         ensures { Put (length key.now + 11) (number_text key.now n) self.old self.new }
     {
         self.put_bytes(key);
@@ -173,7 +173,7 @@ impl<'a> Printer<'a> {
 
     // The line of the outline's index.
     fn put_index(&mut self, index: Option<u32>)
-        requires { Room 25 self.old }
+        requires { HasRoom 25 self.old }
         ensures { Put 25 (index_text index) self.old self.new }
     {
         match index {
@@ -184,7 +184,7 @@ impl<'a> Printer<'a> {
 
     // The line that tells whether the outline was clipped.
     fn put_clipped(&mut self, clipped: bool)
-        requires { Room 18 self.old }
+        requires { HasRoom 18 self.old }
         ensures { Put 18 (clipped_text clipped) self.old self.new }
     {
         if clipped {
@@ -195,7 +195,7 @@ impl<'a> Printer<'a> {
 
     // The first three heads.
     fn put_sizes(&mut self, facts: Facts)
-        requires { SizesInRange facts × Room 54 self.old }
+        requires { SizesInRange facts × HasRoom 54 self.old }
         ensures { Put 54 (sizes_text facts) self.old self.new }
     {
         self.put_number_line(b"height=", facts.height);
@@ -205,7 +205,7 @@ impl<'a> Printer<'a> {
 
     // The five heads.
     fn put_head(&mut self, facts: Facts)
-        requires { SizesInRange facts × Room 97 self.old }
+        requires { SizesInRange facts × HasRoom 97 self.old }
         ensures { Put 97 (head_text facts) self.old self.new }
     {
         self.put_sizes(facts);
