@@ -31,8 +31,8 @@ use Rattle.verdicts.specs.declared.Criteria.{Criteria}
 use Rattle.verdicts.specs.declared.large.Span.{Span}
 use Rattle.verdicts.specs.Steps.{area_of, adjoins}
 use Rattle.verdicts.specs.Targets.{entry_distance, candidate, as_number, decision, by_votes}
-use Rattle.verdicts.specs.Polling.{ballot, Polled, Beside}
-use Rattle.verdicts.specs.Judging.{rule_of, state_of, fate_number, Indexed, large_of, Sound, Judged}
+use Rattle.verdicts.specs.Polling.{ballot, Tallied, Polled, Beside}
+use Rattle.verdicts.specs.Judging.{rule_of, state_of, fate_number, Indexed, large_of, Unmarked, Sound, Judged}
 use Rattle.verdicts.proofs.Choosing.{peak_none, by_votes_none, by_votes-is, one_target, decision_one}
 use Rattle.verdicts.proofs.Agrees.{OnePaint}
 use Rattle.verdicts.specs.Groups.{Group, GroupedSheet}
@@ -271,26 +271,30 @@ module _ {grid : Grid} (by : Criteria) (palette : List Float) {a : List ℕ} (sh
           pub vote_decides : (q : ℕ) → q < n → plane n 5 b q ≡ t + 2 → fate_number (fate (fates rule s) x) ≡ 0 → ⊥
           vote_decides q l e = voter_decides q l (voter-is q l ∙ yes_eqb e)
 
-    -- ---- as the code reads it
+    -- ---- as the code has it
 
-    pub number-read : get_or a (6 * n + t) 0 ≡ plane n 6 a t
+    number-read : get_or a (6 * n + t) 0 ≡ plane n 6 a t
     number-read = plane_read n 6 t (6 * n + t) a refl
 
-    module _ {from : ℕ} (start : from ≡ end_of n a t) where
-      -- the first place, as it is read
+    -- it has a number
+    pub judged-done : (get_or a (6 * n + t) 0 ≡ 0 → ⊥) → Judged rule n t a a 0
+    judged-done z = record { kept = kept_none n a; large = λ q l. refl; marks = λ q l. inl refl; done = λ y. refl; little = λ y. absurd (y refl); right = λ y. absurd (z (number-read ∙ y)) }
+
+    module _ (span : Span) (ends : (span.from ≡ end_of n a t) × (span.to ≡ end_of n a (suc t))) where
+      -- its first place, as it is read
       abbrev seen_first : ℕ
-      seen_first = get_or a (2 * n + from) 0
+      seen_first = get_or a (2 * n + span.from) 0
 
       first-read : seen_first ≡ lead
-      first-read = plane_read n 2 from (2 * n + from) a refl ∙ ap (plane n 2 a) start
+      first-read = plane_read n 2 span.from (2 * n + span.from) a refl ∙ ap (plane n 2 a) ends.0
 
       pub first_in : seen_first < n
       first_in = rw first-read lead_in
 
-      pub large-read : get_or a (5 * n + seen_first) 0 ≡ plane n 5 a lead
+      large-read : get_or a (5 * n + seen_first) 0 ≡ plane n 5 a lead
       large-read = plane_read n 5 seen_first (5 * n + seen_first) a refl ∙ ap (plane n 5 a) first-read
 
-      pub paint-read : get_or a seen_first 0 ≡ plane n 0 a lead
+      paint-read : get_or a seen_first 0 ≡ plane n 0 a lead
       paint-read = plane_read n 0 seen_first seen_first a (omega arith) ∙ ap (plane n 0 a) first-read
 
       pub paint_some : 1 ≤ get_or a seen_first 0
@@ -299,55 +303,61 @@ module _ {grid : Grid} (by : Criteria) (palette : List Float) {a : List ℕ} (sh
       pub paint_most : Indexed n k a → get_or a seen_first 0 ≤ k
       paint_most known = rw paint-read (known.below lead lead_in)
 
-    -- ---- as the code has it
+      -- it is large
+      pub judged_big : (get_or a (5 * n + seen_first) 0 ≡ 0 → ⊥) → Judged rule n t a a 0
+      judged_big z = record { kept = kept_none n a; large = λ q l. refl; marks = λ q l. inl refl; done = λ y. refl; little = λ y. absurd (y refl); right = λ y x l e. stays_big x l e (λ i. z (large-read ∙ i)) }
 
-    pub judged-done : (plane n 6 a t ≡ 0 → ⊥) → Judged rule n t a a 0
-    judged-done z = record { kept = kept_none n a; large = λ q l. refl; marks = λ q l. inl refl; done = λ y. refl; little = λ y. absurd (y refl); right = λ y. absurd (z y) }
+      -- it is small and has no number
+      module _ (free : get_or a (6 * n + t) 0 ≡ 0) (little : get_or a (5 * n + seen_first) 0 ≡ 0) (known : Indexed n k a) where
+        free_now : plane n 6 a t ≡ 0
+        free_now = sym number-read ∙ free
 
-    pub judged_big : (plane n 5 a lead ≡ 0 → ⊥) → Judged rule n t a a 0
-    judged_big z = record { kept = kept_none n a; large = λ q l. refl; marks = λ q l. inl refl; done = λ y. refl; little = λ y. absurd (y refl); right = λ y x l e. stays_big x l e z }
+        little_now : plane n 5 a lead ≡ 0
+        little_now = sym large-read ∙ little
 
-    -- the group is small and has no number; its places and its paint are as they were read
-    module _ (span : Span) (ends : (span.from ≡ end_of n a t) × (span.to ≡ end_of n a (suc t))) (free : plane n 6 a t ≡ 0) (little : plane n 5 a lead ≡ 0) (known : Indexed n k a) where
-      -- one paint is all that large neighbours have
-      pub judged_agreed : {v : ℕ} → OnePaint grid a span.from span.to v →
-          {paint : ℕ} → paint ≡ plane n 0 a lead → {r : ℕ} → r ≡ as_number (decision (Some (candidate (v - 1) (entry_distance palette (paint - 1) (v - 1)))) reach) → Judged rule n t a a r
-      judged_agreed {v} u ep e =
-          record {
-            kept = kept_none n a;
-            large = λ q l. refl;
-            marks = λ q l. inl refl;
-            done = λ x. absurd (x free);
-            little = λ x. little;
-            right = λ q x l i. (rw ep at e) ∙ agreed_fate x l i free little known v (rw (ends.0, ends.1) at u);
-          }
-
-      module _ (fresh : (q : ℕ) → q < n → plane n 5 a q ≡ t + 2 → ⊥) where
-        -- they are polled
-        pub judged_polled : {b counts : List ℕ} → Polled n (t + 2) (Beside grid a span.from span.to) a b counts →
-            {paint : ℕ} → paint ≡ plane n 0 a lead → {r : ℕ} → r ≡ as_number (by_votes (entry_distance palette (paint - 1)) counts k reach) → Judged rule n t a b r
-        unfolding large_of
-        judged_polled {b} {counts} polled ep {r} e =
-            let ne : t + 2 ≡ 0 → ⊥ = (λ x. omega arith) in
-            let u : Polled n (t + 2) (Around t) a b counts = rw (ends.0, ends.1) at polled in
-            let right : (x : ℕ) → x < n → group x ≡ suc t → r ≡ fate_number (fate (fates rule s) x) = (λ x l i. (rw ep at e) ∙ polled_fate x l i free little known b counts fresh u) in
+        -- one paint is all that large neighbours have
+        pub judged_agreed : {v : ℕ} → OnePaint grid a span.from span.to v →
+            {r : ℕ} → r ≡ as_number (decision (Some (candidate (v - 1) (entry_distance palette (get_or a seen_first 0 - 1) (v - 1)))) reach) → Judged rule n t a a r
+        judged_agreed {v} u e =
             record {
-              kept = u.kept;
-              large = λ q l. elim (ℕ_discrete (plane n 5 a q) 0) [
-                | yes i ↦ (elim (ℕ_discrete (plane n 5 b q) 0) [ yes j ↦ rw (i, j) | no j ↦ absurd (large_was ne u q l j i) ])
-                | no i ↦ rw (ne_eqb (plane n 5 a q) 0 i, ne_eqb (plane n 5 b q) 0 (large_then ne u q l i))
-              ];
-              marks = λ q l. ⊎_elim inl (λ m. inr (m.0, (λ o. vote_decides lead lead_in lead-label free little known b counts fresh u q l m.0 (sym (right lead lead_in lead-label) ∙ o)))) (u.marks q l);
-              done = λ x. absurd (x free);
-              little = λ x. little;
-              right = λ x. right;
+              kept = kept_none n a;
+              large = λ q l. refl;
+              marks = λ q l. inl refl;
+              done = λ x. absurd (x free_now);
+              little = λ x. little_now;
+              right = λ q x l i. (rw paint-read at e) ∙ agreed_fate x l i free_now little_now known v (rw (ends.0, ends.1) at u);
             }
 
-        -- no neighbour is large: the poll would change nothing
-        pub judged_silent : ((i : ℕ) → span.from ≤ i → i < span.to → (q : ℕ) → eight grid.w (plane n 2 a i) q ≡ true → plane n 5 a q ≡ 0) → Judged rule n t a a 0
-        unfolding as_number
-        judged_silent none =
-            judged_polled
-            (polled_still n (t + 2) (λ x. omega arith) a (replicate 256 0) (tally_new n (t + 2) a fresh)
-            (λ q l b large. absurd (large (none b.0 b.1 b.2 q (neighbours_in grid (plane n 2 a b.0) q l b.3)))))
-            refl (ap as_number (by_votes_none _ (replicate 256 0) k 0 reach (peak_none k known.few) refl))
+        module _ (fresh : Unmarked n a t) where
+          -- they are polled
+          pub judged_polled : {b counts : List ℕ} → Polled n (t + 2) (Beside grid a span.from span.to) a b counts →
+              {r : ℕ} → r ≡ as_number (by_votes (entry_distance palette (get_or a seen_first 0 - 1)) counts k reach) → Judged rule n t a b r
+          unfolding large_of
+          judged_polled {b} {counts} polled {r} e =
+              let ne : t + 2 ≡ 0 → ⊥ = (λ x. omega arith) in
+              let u : Polled n (t + 2) (Around t) a b counts = rw (ends.0, ends.1) at polled in
+              let right : (x : ℕ) → x < n → group x ≡ suc t → r ≡ fate_number (fate (fates rule s) x) = (λ x l i. (rw paint-read at e) ∙ polled_fate x l i free_now little_now known b counts (fresh free_now) u) in
+              record {
+                kept = u.kept;
+                large = λ q l. elim (ℕ_discrete (plane n 5 a q) 0) [
+                  | yes i ↦ (elim (ℕ_discrete (plane n 5 b q) 0) [ yes j ↦ rw (i, j) | no j ↦ absurd (large_was ne u q l j i) ])
+                  | no i ↦ rw (ne_eqb (plane n 5 a q) 0 i, ne_eqb (plane n 5 b q) 0 (large_then ne u q l i))
+                ];
+                marks = λ q l. ⊎_elim inl (λ m. inr (m.0, (λ o. vote_decides lead lead_in lead-label free_now little_now known b counts (fresh free_now) u q l m.0 (sym (right lead lead_in lead-label) ∙ o)))) (u.marks q l);
+                done = λ x. absurd (x free_now);
+                little = λ x. little_now;
+                right = λ x. right;
+              }
+
+          -- nobody has voted yet
+          pub none_voted : Tallied n a (t + 2) (replicate 256 0)
+          none_voted = tally_new n (t + 2) a (fresh free_now)
+
+          -- no neighbour is large: the poll would change nothing
+          pub judged_silent : ((i : ℕ) → span.from ≤ i → i < span.to → (q : ℕ) → eight grid.w (plane n 2 a i) q ≡ true → plane n 5 a q ≡ 0) → Judged rule n t a a 0
+          unfolding as_number
+          judged_silent none =
+              judged_polled
+              (polled_still n (t + 2) (λ x. omega arith) a (replicate 256 0) none_voted
+              (λ q l b large. absurd (large (none b.0 b.1 b.2 q (neighbours_in grid (plane n 2 a b.0) q l b.3)))))
+              (ap as_number (by_votes_none _ (replicate 256 0) k 0 reach (peak_none k known.few) refl))
