@@ -47,20 +47,21 @@ module _ (c : OrphansCall) where
   unfolding orphans_refusal
   by_sheet e = rows_hit _ _ e
 
-  module _ (one : refusal (lent_rows c.lent false) ≡ None) where
-    pub by_palette : {n : Refusal} → refusal (palette_rows c.palette (bad_limits c.limits c.passes)) ≡ Some n → orphans_refusal c ≡ Some n
+  -- limits is what the code makes of the settings
+  module _ (one : refusal (lent_rows c.lent false) ≡ None) {limits : Bool} (is : limits ≡ bad_limits c.limits c.passes) where
+    pub by_palette : {n : Refusal} → refusal (palette_rows c.palette limits) ≡ Some n → orphans_refusal c ≡ Some n
     unfolding orphans_refusal
-    by_palette e = rows_pass _ _ one ∙ rows_hit _ _ e
+    by_palette e = rows_pass _ _ one ∙ rows_hit _ _ (rw is at e)
 
-    module _ (two : refusal (palette_rows c.palette (bad_limits c.limits c.passes)) ≡ None) where
+    module _ (two : refusal (palette_rows c.palette limits) ≡ None) where
       pub by_index : unnamed ≡ true → orphans_refusal c ≡ Some NoSuchEntry
       unfolding orphans_refusal bad_index sheet_of area
-      by_index y = rows_pass _ _ one ∙ rows_pass _ _ two ∙ row_hit _ _ y
+      by_index y = rows_pass _ _ one ∙ rows_pass _ _ (rw is at two) ∙ row_hit _ _ y
 
       module _ (z : unnamed ≡ false) where
         pub accepted : orphans_refusal c ≡ None
         unfolding orphans_refusal bad_index sheet_of area
-        accepted = rows_pass _ _ one ∙ rows_pass _ _ two ∙ row_last _ z
+        accepted = rows_pass _ _ one ∙ rows_pass _ _ (rw is at two) ∙ row_last _ z
 
         -- what cleaning asks for
         pub fits : Fit c.lent.cells c.lent.height c.lent.width c.palette.lab c.palette.count c.limits.region c.lent.work
