@@ -4,18 +4,21 @@ use lib.Signed.{non_neg, le_z, pos-nat_abs, nat_abs-le}
 use mir.Syntax.{w32}
 use mir.Val.{Fits, SFits, to_z, of_z}
 use mir.Facts.{to_z-of_z}
-use Rattle.std.proofs.Common.{◌≡◌, ◌*◌, ◌≤◌, true, false, pos, nat_abs, take, sym, subst, ◌∙◌, rules, arith}
+use Rattle.std.proofs.Common.{◌≡◌, ◌*◌, ◌≤◌, Bool, true, false, ℤ, pos, nat_abs, take, sym, ap, subst, ◌∙◌, rules, arith}
 use Rattle.grid.proofs.Planes.{Painted}
 use Rattle.grid.proofs.Tiles.{whole_tile, load_whole, store_whole}
 use Rattle.orphans.proofs.Storing.{not_negative_lem, loaded_known, none_cleaned, all_cleaned}
 use Rattle.orphans.proofs.clean_sheet.Goals as goal
 
+-- whether regions can be small, of the limit as the code has it
+some_small_is : {z : ℤ} {b : Bool} → SFits w32 z → b ≡ le_z (pos 2) (to_z w32 (of_z w32 z)) → le_z (pos 2) z ≡ b
+some_small_is known e = sym (ap (le_z (pos 2)) (to_z-of_z known)) ∙ sym e
+
 pub returns-then-not-some_small : goal.returns-then-not-some_small
 returns-then-not-some_small c =
     let known : SFits w32 c.args.limits.region = search rules in
-    let back = to_z-of_z {w = w32} {z = c.args.limits.region} known in
     let none : c.some_small.result ≡ false = search rules in
-    let r = none_cleaned c.requires c.args.max_passes c.args.limits.colour (rw back at (sym c.some_small.ensures ∙ none)) in
+    let r = none_cleaned c.requires c.args.max_passes c.args.limits.colour (some_small_is known c.some_small.ensures ∙ none) in
     record { value = r.0; cells_after = r.1 }
 
 pub overflow_cast-limit : goal.overflow_cast-limit
@@ -24,7 +27,7 @@ overflow_cast-limit c =
     let known : SFits w32 z = search rules in
     let back = to_z-of_z {w = w32} {z = z} known in
     let yes : c.some_small.result ≡ true = search rules in
-    let small : le_z (pos 2) z ≡ true = rw back at (sym c.some_small.ensures ∙ yes) in
+    let small : le_z (pos 2) z ≡ true = some_small_is known c.some_small.ensures ∙ yes in
     let l : nat_abs z ≤ 2147483648 = nat_abs-le z known.sfits in
     let p : T (non_neg z) × Fits w32 (nat_abs z) = (not_negative_lem z small, omega arith) in
     rw back p
@@ -39,7 +42,7 @@ clean_planes-count-requires-clause-indexed c =
     let z = a.limits.region in
     let known : SFits w32 z = search rules in
     let yes : c.some_small.result ≡ true = search rules in
-    let small : le_z (pos 2) z ≡ true = rw (to_z-of_z {w = w32} {z = z} known) at (sym c.some_small.ensures ∙ yes) in
+    let small : le_z (pos 2) z ≡ true = some_small_is known c.some_small.ensures ∙ yes in
     let n = a.size.h * a.size.w in
     loaded_known f small c.load.new.work (subst (Painted (take n a.cells.now) n) (sym (rw c.whole-tile.ensures at c.load.ensures.work_after)) (load_whole a.cells.now a.work.now a.size.h a.size.w f.reads))
 
@@ -54,7 +57,7 @@ returns c =
     let known : SFits w32 z = search rules in
     let back = to_z-of_z {w = w32} {z = z} known in
     let yes : c.some_small.result ≡ true = search rules in
-    let small : le_z (pos 2) z ≡ true = rw back at (sym c.some_small.ensures ∙ yes) in
+    let small : le_z (pos 2) z ≡ true = some_small_is known c.some_small.ensures ∙ yes in
     let e : pos (nat_abs (to_z w32 (of_z w32 z))) ≡ z = rw back (pos-nat_abs z (not_negative_lem z small)) in
     let n = a.size.h * a.size.w in
     let painted = subst (Painted (take n a.cells.now) n) (sym (rw c.whole-tile.ensures at c.load.ensures.work_after)) (load_whole a.cells.now a.work.now a.size.h a.size.w f.reads) in
