@@ -12,7 +12,7 @@ use lib.Ieee.{Float}
 use lib.IntN.{ℤ}
 use lib.ListN.{length, get_or}
 use Rattle.base.specs.Places.{any}
-use Rattle.base.proofs.Counting.{case, clash, both, left, right, not_true, not_false, yes_eqb, leb_yes, yes_leb, no_leb, any_no, count_le, table_same, table-length}
+use Rattle.base.proofs.Counting.{case, clash, both, left, right, not_true, not_false, yes_eqb, leb_yes, yes_leb, no_leb, any_no, count_le, table-length}
 use Rattle.rules.specs.Regions.{opaque, roots, label, Symmetric}
 use Rattle.rules.specs.Masks as masks
 use Rattle.rules.specs.Pass.{Rule, marked, small, large, fresh}
@@ -35,6 +35,7 @@ use Rattle.frontier.specs.Growing.{Enlarged}
 use Rattle.frontier.proofs.Stages.{frozen_is}
 use Rattle.orphans.specs.Starting.{LabelledSheet, size_of, in_large, AtStart}
 use Rattle.orphans.specs.Passing.{Wiped, PassDone, BetweenPasses}
+use Rattle.orphans.proofs.Cleaning.{Unfrozen, wiped_unfrozen, unfrozen_known}
 use Rattle.orphans.proofs.LabelledSheets.{Kept, symmetric, sheet-few, label-below, label_some, label-shown, sheet-group, sheet-large, sheet_kept, regions_kept, large_kept}
 
 -- ---- the planes before the first pass are a stage
@@ -158,21 +159,19 @@ pub record Labelling (grid : Grid) (by : Criteria) (a c : List ℕ) (regions : �
   pub sheet : LabelledSheet grid c
   pub full : sheet.regions ≡ regions
   pub known : Indexed (area_of grid) by.k a
-  pub len : length c ≡ length a
-  pub paint : (q : ℕ) → q < area_of grid → plane (area_of grid) 0 c q ≡ plane (area_of grid) 0 a q
-  pub thawed : (q : ℕ) → q < area_of grid → plane (area_of grid) 4 c q ≡ 0
+  pub unfrozen : Unfrozen (area_of grid) a c
 
 -- so they are once plane 4 is wiped, which leaves b, and the regions are labelled
 pub labelling : {grid : Grid} {by : Criteria} {a b c : List ℕ} → Sized grid.h grid.w a → Indexed (area_of grid) by.k a → (t : Tally) → Wiped (4 * (area_of grid)) (area_of grid) a b →
     Labelled (adjoins grid) (cells_of (area_of grid) b) (area_of grid) c t.regions t.taken → Filling.PlanesKept (area_of grid) b c → Labelling grid by a c t.regions
-unfolding plane
-labelling {grid} {b = b} {c = c} sized known t thaw lab kept =
-    let paint : (q : ℕ) → q < area_of grid → _ = (λ q l. kept.others 0 q (inl refl) l ∙ thaw.others (0 * (area_of grid) + q) (inl (omega arith))) in
+labelling {grid} {b = b} {c = c} sized known t wiped lab kept =
+    let w = wiped_unfrozen wiped in
+    let paint : (q : ℕ) → q < area_of grid → _ = (λ q l. kept.others 0 q (inl refl) l ∙ w.paint q l) in
     record {
       sheet = record {
         rows = sized.rows;
         cols = sized.cols;
-        room = rw (kept.size, thaw.len) sized.planes;
+        room = rw (kept.size, w.len) sized.planes;
         paint = λ q l. let z = paint q l in omega (arith, known.below q l, known.few);
         regions = t.regions;
         taken = t.taken;
@@ -180,9 +179,7 @@ labelling {grid} {b = b} {c = c} sized known t thaw lab kept =
       };
       full = refl;
       known = known;
-      len = kept.size ∙ thaw.len;
-      paint = paint;
-      thawed = λ q l. kept.others 4 q (inr (omega arith)) l ∙ thaw.zeros q l;
+      unfrozen = record { len = kept.size ∙ w.len; paint = paint; thawed = λ q l. kept.others 4 q (inr (omega arith)) l ∙ w.thawed q l };
     }
 
 module _ {grid : Grid} {by : Criteria} {a c : List ℕ} {regions : ℕ} (u : Labelling grid by a c regions) where
@@ -199,23 +196,7 @@ module _ {grid : Grid} {by : Criteria} {a c : List ℕ} {regions : ℕ} (u : Lab
   pub labelled-few : regions ≤ area_of grid
   labelled-few = omega (arith, sheet-few u.sheet, u.full)
 
-  -- planes with this paint and no place frozen: their indices, and the state that they stand for
-  module _ (f : List ℕ) (paint : (q : ℕ) → q < area_of grid → plane (area_of grid) 0 f q ≡ plane (area_of grid) 0 a q) (thawed : (q : ℕ) → q < area_of grid → plane (area_of grid) 4 f q ≡ 0) where
-    known_of : Indexed (area_of grid) k f
-    known_of = record { few = u.known.few; below = λ q l. rw (paint q l) (u.known.below q l) }
-
-    state_of_lem : (rule : Rule) → rule.places ≡ area_of grid → state_of (area_of grid) f ≡ fresh rule (cells_of (area_of grid) a)
-    unfolding state_of fresh
-    state_of_lem rule is =
-        rw (is, cells_kept (area_of grid) f a paint, table_same (area_of grid) (λ p. not (eqb (plane (area_of grid) 4 f p) 0)) (λ p. false) false (λ p l. rw (thawed p l)))
-
   -- ---- no region is small: a pass changes nothing
-
-  pub labelled_state : (rule : Rule) → rule.places ≡ area_of grid → state_of (area_of grid) c ≡ fresh rule (cells_of (area_of grid) a)
-  labelled_state = state_of_lem c u.paint u.thawed
-
-  pub labelled_known : Indexed (area_of grid) k c
-  labelled_known = known_of c u.paint u.thawed
 
   module _ (palette : List Float) (none : any regions (λ l. ltb (size_of (area_of grid) c (suc l)) limit) ≡ false) where
     abbrev ruled : Rule
@@ -250,7 +231,7 @@ module _ {grid : Grid} {by : Criteria} {a c : List ℕ} {regions : ℕ} (u : Lab
       len = refl;
       state = sym (still_pass ruled symm (state_of (area_of grid) c) (cells-size (area_of grid) c) none_small (table-length (area_of grid) _));
       moves = sym (still_moves ruled symm (state_of (area_of grid) c) (cells-size (area_of grid) c) none_small);
-      known = labelled_known;
+      known = unfrozen_known u.unfrozen u.known;
     }
 
   -- ---- else: e with plane 5 and the numbers of the regions wiped
@@ -280,11 +261,12 @@ module _ {grid : Grid} {by : Criteria} {a c : List ℕ} {regions : ℕ} (u : Lab
       since_e : Kept (area_of grid) e f
       since_e = record { len = started.kept.len; same = λ j q l z. started.kept.same j q (λ y. absurd (omega arith)) z }
 
-      paint_f : (q : ℕ) → q < area_of grid → plane (area_of grid) 0 f q ≡ plane (area_of grid) 0 a q
-      paint_f q l = since_e.same 0 q (omega arith) l ∙ since_c.same 0 q (omega arith) l ∙ u.paint q l
-
-      thawed_f : (q : ℕ) → q < area_of grid → plane (area_of grid) 4 f q ≡ 0
-      thawed_f q l = since_e.same 4 q (omega arith) l ∙ since_c.same 4 q (omega arith) l ∙ u.thawed q l
+      pub start_unfrozen : Unfrozen (area_of grid) a f
+      start_unfrozen = record {
+        len = started.kept.len ∙ wiped.len ∙ u.unfrozen.len;
+        paint = λ q l. since_e.same 0 q (omega arith) l ∙ since_c.same 0 q (omega arith) l ∙ u.unfrozen.paint q l;
+        thawed = λ q l. since_e.same 4 q (omega arith) l ∙ since_c.same 4 q (omega arith) l ∙ u.unfrozen.thawed q l;
+      }
 
       flags_f : (q : ℕ) → q < area_of grid → plane (area_of grid) 5 f q ≡ cond (in_large (area_of grid) limit e q) 1 0
       unfolding in_large size_of
@@ -307,15 +289,8 @@ module _ {grid : Grid} {by : Criteria} {a c : List ℕ} {regions : ℕ} (u : Lab
       at-start = record {
         sheet = sheet_kept sheet-e since_e;
         full = sym (regions_kept sheet-e since_e ∙ full_e);
-        known = known_of f paint_f thawed_f;
+        known = unfrozen_known start_unfrozen u.known;
         flags = λ q l. flags_f q l ∙ ap (λ (y : Bool). cond y 1 0) (sym (large_kept sheet-e since_e limit q l));
-        thawed = thawed_f;
+        thawed = start_unfrozen.thawed;
         blank = λ l z. started.kept.same 6 l (λ y. absurd (omega arith)) (start_groups l z).label ∙ ap (λ (i : ℕ). get_or e i 0) (omega arith) ∙ wiped.zeros (1 * (area_of grid) + l) (omega arith);
       }
-
-      pub start-length : length f ≡ length a
-      start-length = started.kept.len ∙ wiped.len ∙ u.len
-
-      -- and stand for the sheet with no cell frozen
-      pub start_state : (rule : Rule) → rule.places ≡ area_of grid → state_of (area_of grid) f ≡ fresh rule (cells_of (area_of grid) a)
-      start_state = state_of_lem f paint_f thawed_f

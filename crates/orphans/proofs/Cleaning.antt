@@ -6,11 +6,11 @@ use mathlib.Core.Bool.{true, false, not}
 use mathlib.Core.List.{List}
 use native.Mathlib.Omega.{arith}
 use lib.Dec.{eqb}
-use lib.IntN.{negsuc}
 use lib.ListN.{length}
 use Rattle.rules.specs.Pass.{Rule, State, Cleaned, fresh, clean}
 use Rattle.rules.proofs.Runs.{clean_go, clean_stop}
-use Rattle.grid.specs.Planes.{plane, cell_of, cells_of}
+use Rattle.grid.specs.Planes.{plane, cells_of}
+use Rattle.grid.proofs.Planes.{cells_kept}
 use Rattle.labels.specs.Filling.{Sized}
 use Rattle.verdicts.specs.Judging.{state_of, Indexed}
 use Rattle.orphans.specs.Passing.{Wiped, PassDone, CleanedTo}
@@ -18,21 +18,24 @@ use Rattle.base.proofs.Counting.{table_same}
 
 -- ---- a sheet with no cell frozen
 
-module _ (n k : ℕ) (a b : List ℕ) (u : Wiped (4 * n) n a b) where
-  same_paint : (p : ℕ) → p < n → plane n 0 b p ≡ plane n 0 a p
-  unfolding plane
-  same_paint p l = u.others (0 * n + p) (inl (omega arith))
+-- the planes f hold the sheet of a, and no place of them is frozen
+pub record Unfrozen (n : ℕ) (a f : List ℕ) : Type 0 where
+  pub len : length f ≡ length a
+  pub paint : (q : ℕ) → q < n → plane n 0 f q ≡ plane n 0 a q
+  pub thawed : (q : ℕ) → q < n → plane n 4 f q ≡ 0
 
-  same-cells : cells_of n b ≡ cells_of n a
-  unfolding cells_of
-  same-cells = table_same n _ _ (negsuc 0) (λ p l. ap cell_of (same_paint p l))
+-- so they do once plane 4 is wiped
+pub wiped_unfrozen : {n : ℕ} {a b : List ℕ} → Wiped (4 * n) n a b → Unfrozen n a b
+unfolding plane
+wiped_unfrozen {n} u = record { len = u.len; paint = λ q l. u.others (0 * n + q) (inl (omega arith)); thawed = u.zeros }
 
-  pub thawed : (rule : Rule) → rule.places ≡ n → state_of n b ≡ fresh rule (cells_of n a)
-  unfolding state_of fresh plane
-  thawed rule e = rw (same-cells, e, table_same n (λ p. not (eqb (plane n 4 b p) 0)) (λ p. false) false (λ p l. rw (u.zeros p l)))
+module _ {n : ℕ} {a f : List ℕ} (u : Unfrozen n a f) where
+  pub unfrozen_state : (rule : Rule) → rule.places ≡ n → state_of n f ≡ fresh rule (cells_of n a)
+  unfolding state_of fresh
+  unfrozen_state rule e = rw (e, cells_kept n f a u.paint, table_same n (λ p. not (eqb (plane n 4 f p) 0)) (λ p. false) false (λ p l. rw (u.thawed p l)))
 
-  pub thawed_known : Indexed n k a → Indexed n k b
-  thawed_known i = record { few = i.few; below = λ q l. rw (same_paint q l) (i.below q l) }
+  pub unfrozen_known : {k : ℕ} → Indexed n k a → Indexed n k f
+  unfrozen_known i = record { few = i.few; below = λ q l. rw (u.paint q l) (i.below q l) }
 
 -- ---- pass after pass
 
@@ -96,10 +99,10 @@ module _ (rule : Rule) (n k max : ℕ) (a : List ℕ) where
 pub same_size : {h w : ℕ} {a b : List ℕ} → Sized h w a → length b ≡ length a → Sized h w b
 same_size s e = record { rows = s.rows; cols = s.cols; planes = rw e s.planes }
 
--- the planes were a before plane 4 was wiped
-pub cleaned-from : (rule : Rule) (n k max : ℕ) (a b c : List ℕ) (r : ℕ) → rule.places ≡ n → Wiped (4 * n) n a b → CleanedTo (clean rule max (state_of n b)) n k b c r → CleanedTo (clean rule max (fresh rule (cells_of n a))) n k a c r
-cleaned-from rule n k max a b c r e u v =
-    let t = thawed n k a b u rule e in
+-- cleaning begins with no cell frozen
+pub cleaned-from : (rule : Rule) (n k max : ℕ) {a f c : List ℕ} {r : ℕ} → rule.places ≡ n → Unfrozen n a f → CleanedTo (clean rule max (state_of n f)) n k f c r → CleanedTo (clean rule max (fresh rule (cells_of n a))) n k a c r
+cleaned-from rule n k max e u v =
+    let t = unfrozen_state u rule e in
     record {
       len = v.len ∙ u.len;
       state = v.state ∙ ap (λ (s : State). (clean rule max s).state) t;

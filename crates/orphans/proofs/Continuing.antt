@@ -1,18 +1,17 @@
 -- Pass after pass is the rules' cleaning. Assumes nothing.
 use Prim.Native.Nat.{ℕ, ◌+◌, ◌-◌, ◌*◌, ◌≤◌, ◌<◌}
-use mathlib.Core.Path.{◌≡◌, sym, ap, ◌∙◌}
+use mathlib.Core.Path.{◌≡◌, sym, ◌∙◌}
 use mathlib.Core.Bool.{true, false}
 use mathlib.Core.List.{List}
 use native.Mathlib.Omega.{arith}
 use borrow.Author.Tests.{lt-ltb, le-ltb}
-use lib.ListN.{length}
-use Rattle.rules.specs.Pass.{Rule, State, fresh, clean}
+use Rattle.rules.specs.Pass.{Rule, fresh, clean}
 use Rattle.grid.specs.declared.Grid.{Grid}
 use Rattle.grid.specs.Planes.{cells_of}
 use Rattle.verdicts.specs.Steps.{area_of}
 use Rattle.verdicts.specs.Judging.{state_of, Indexed}
 use Rattle.orphans.specs.Passing.{Wiped, PassDone, CleanedTo, AtFrontier, PassMade}
-use Rattle.orphans.proofs.Cleaning.{thawed_known, Going, going_start, going_on, going_stops, going_ends, cleaned-from}
+use Rattle.orphans.proofs.Cleaning.{Unfrozen, wiped_unfrozen, unfrozen_known, Going, going_start, going_on, going_stops, going_ends, cleaned-from}
 
 -- the log has grown, or not
 repaints : {rule : Rule} {grid : Grid} {k end last : ℕ} {a b : List ℕ} → end < last → PassMade rule grid k end a b last → PassDone rule (area_of grid) k a b true
@@ -48,37 +47,28 @@ module _ (rule : Rule) (grid : Grid) (k max : ℕ) (a : List ℕ) where
 -- ---- the first pass, and what came before it
 
 -- no pass is asked for: plane 4 is wiped, and that is all
-pub cleaned_none : (rule : Rule) (n k max : ℕ) (a b : List ℕ) → rule.places ≡ n → max ≡ 0 → Indexed n k a → Wiped (4 * n) n a b → CleanedTo (clean rule max (fresh rule (cells_of n a))) n k a b 0
-cleaned_none rule n k max a b is e known u =
-    let v = cleaned-from rule n k max a b b max is u (going_ends rule n k max b (going_start rule n k max b (thawed_known n k a b u known)) (omega arith)) in
+pub cleaned_none : (rule : Rule) (n k max : ℕ) {a b : List ℕ} → rule.places ≡ n → max ≡ 0 → Indexed n k a → Wiped (4 * n) n a b → CleanedTo (clean rule max (fresh rule (cells_of n a))) n k a b 0
+cleaned_none rule n k max {b = b} is e known w =
+    let u = wiped_unfrozen w in
+    let v = cleaned-from rule n k max is u (going_ends rule n k max b (going_start rule n k max b (unfrozen_known u known)) (omega arith)) in
     record { len = v.len; state = v.state; count = sym e ∙ v.count; known = v.known }
 
--- the planes were a, and stand for the same sheet, with no cell frozen, when they are f
-module _ (rule : Rule) (n k max : ℕ) (a f : List ℕ) (state : state_of n f ≡ fresh rule (cells_of n a)) (len : length f ≡ length a) where
-  since : {c : List ℕ} {r : ℕ} → CleanedTo (clean rule max (state_of n f)) n k f c r → CleanedTo (clean rule max (fresh rule (cells_of n a))) n k a c r
-  since v = record {
-    len = v.len ∙ len;
-    state = v.state ∙ ap (λ (x : State). (clean rule max x).state) state;
-    count = v.count ∙ ap (λ (x : State). (clean rule max x).count) state;
-    known = v.known;
-  }
+-- a pass changes nothing
+pub cleaned_still : (rule : Rule) (n k max : ℕ) {a f : List ℕ} → rule.places ≡ n → Unfrozen n a f → 0 < max → PassDone rule n k f f false → CleanedTo (clean rule max (fresh rule (cells_of n a))) n k a f 0
+cleaned_still rule n k max {f = f} is u some p = cleaned-from rule n k max is u (going_stops rule n k max f (going_start rule n k max f p.known) some p)
 
-  -- a pass from f changes nothing
-  pub cleaned_still : 0 < max → PassDone rule n k f f false → CleanedTo (clean rule max (fresh rule (cells_of n a))) n k a f 0
-  cleaned_still some p = since (going_stops rule n k max f (going_start rule n k max f p.known) some p)
-
--- the planes were a, and f before the first pass, which left g
-module _ (rule : Rule) (grid : Grid) (k max : ℕ) (a f g : List ℕ) (state : state_of (area_of grid) f ≡ fresh rule (cells_of (area_of grid) a)) (len : length f ≡ length a) (known : Indexed (area_of grid) k f) (some : 0 < max) {last : ℕ}
+-- the first pass found f, and left g
+module _ (rule : Rule) (grid : Grid) (k max : ℕ) {a f g : List ℕ} (is : rule.places ≡ area_of grid) (u : Unfrozen (area_of grid) a f) (known : Indexed (area_of grid) k a) (some : 0 < max) {last : ℕ}
     (s : PassMade rule grid k 0 f g last) where
   going : Going rule (area_of grid) k max f f 0
-  going = going_start rule (area_of grid) k max f known
+  going = going_start rule (area_of grid) k max f (unfrozen_known u known)
 
   -- it repainted nothing
   pub cleaned-first : last ≡ 0 → CleanedTo (clean rule max (fresh rule (cells_of (area_of grid) a))) (area_of grid) k a g 0
-  cleaned-first e = since rule (area_of grid) k max a f state len (going_stops rule (area_of grid) k max f going some (rests e s))
+  cleaned-first e = cleaned-from rule (area_of grid) k max is u (going_stops rule (area_of grid) k max f going some (rests e s))
 
   -- or further passes followed it
   pub cleaned-more : 0 < last → {c : List ℕ} {r : ℕ} → CleanedTo (clean rule (max - 1) (state_of (area_of grid) g)) (area_of grid) k g c r → CleanedTo (clean rule max (fresh rule (cells_of (area_of grid) a))) (area_of grid) k a c (r + 1)
   cleaned-more l v =
-      let u = going_on rule (area_of grid) k max f going some (repaints l s) in
-      since rule (area_of grid) k max a f state len (record { len = v.len ∙ u.len; state = v.state ∙ sym u.state; count = omega (arith, v.count, u.passes); known = v.known })
+      let w = going_on rule (area_of grid) k max f going some (repaints l s) in
+      cleaned-from rule (area_of grid) k max is u (record { len = v.len ∙ w.len; state = v.state ∙ sym w.state; count = omega (arith, v.count, w.passes); known = v.known })
