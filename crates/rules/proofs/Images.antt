@@ -2,7 +2,7 @@
 use Prim.Native.Nat.{ℕ, zero, suc, ◌≤◌, ◌<◌}
 use mathlib.Core.Path.{◌≡◌, refl, sym, ap, ◌∙◌, subst}
 use mathlib.Core.Logic.{⊎_elim}
-use mathlib.Core.Bool.{true, false, ◌||◌, false≢true}
+use mathlib.Core.Bool.{Bool, true, false, ◌||◌, cond, false≢true}
 use mathlib.Core.List.{List, [], ◌∷◌}
 use native.Mathlib.Nat.{le_refl, le_trans, le_of_eq, le_of_lt, le_of_suc-le-suc, not-suc-le-zero, lt_irrefl, lt_of_le_of_lt, lt_of_lt_of_le}
 use lib.IntN.{ℤ, pos, negsuc}
@@ -53,10 +53,14 @@ unseen {rule} {m} c h (more {c = d} {cs = cs} g t) =
     (either (same_cells c d) (among c cs) y))
     (λ z. z)
 
+-- where a test fails, the second of two is taken
+second : {A : Type 0} {b : Bool} (x y : A) → b ≡ false → cond b x y ≡ y
+second x y z = rw z
+
 watched_go : (rule : Rule) (k : ℕ) (s : State) (seen : List (List ℤ)) → moves rule (fates rule s) ≡ true → among (pass rule s).cells seen ≡ false →
     watched rule (suc k) s seen ≡ record { state = (watched rule k (pass rule s) ((pass rule s).cells ∷ seen)).state; count = suc (watched rule k (pass rule s) ((pass rule s).cells ∷ seen)).count }
 unfolding watched pass
-watched_go rule k s seen y z = rw (y, z, watched)
+watched_go rule k s seen y z = rw (y, watched) (second _ _ z)
 
 watched_stop : (rule : Rule) (k : ℕ) (s : State) (seen : List (List ℤ)) → moves rule (fates rule s) ≡ false → watched rule (suc k) s seen ≡ record { state = pass rule s; count = 0 }
 unfolding watched pass

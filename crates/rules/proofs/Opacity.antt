@@ -23,7 +23,7 @@ use Rattle.rules.specs.Outline.{touches, asked, pads, padded_at, padded, canvas,
 use Rattle.rules.specs.Calls.{RunCall}
 use Rattle.rules.specs.Run.{rule_on, rule_for, clean_sheet, clean_sheet_if, limits_of, toned_palette, drawing_of, outline_if, first_cleaning, outlined_run, second_cleaning, process}
 use Rattle.rules.specs.Claims.{KeepsOpaque}
-use Rattle.rules.proofs.Grids.{eight_symmetric}
+use Rattle.rules.proofs.Grids.{ruled_both_ways}
 use Rattle.rules.proofs.More.{clean-opaque}
 use Rattle.rules.proofs.Runs.{run_length}
 
@@ -59,11 +59,12 @@ clean-alike : (k : ℕ) (palette : Palette) (limits : Limits) (s : Sheet) → le
 unfolding clean_sheet rule_for rule_on fresh area
 clean-alike k palette limits s len =
     let rule = rule_for palette limits s in
+    let both_ways = ruled_both_ways palette limits s in
     record {
       height = refl;
       width = refl;
-      full = run_length rule (eight_symmetric s.width) k (fresh rule s.cells) len;
-      opaq = clean-opaque rule (eight_symmetric s.width) k (fresh rule s.cells) len;
+      full = run_length rule both_ways k (fresh rule s.cells) len;
+      opaq = clean-opaque rule both_ways k (fresh rule s.cells) len;
     }
 
 pub cleaned-alike : (on : Bool) (k : ℕ) (palette : Palette) (limits : Limits) (s : Sheet) → length s.cells ≡ area s → Alike s (clean_sheet_if on k palette limits s).sheet

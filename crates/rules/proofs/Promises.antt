@@ -10,9 +10,9 @@ use native.Mathlib.Nat.{le_trans}
 use lib.IntN.{ℤ, negsuc}
 use lib.ListN.{length, get_or, take}
 use lib.Seq.{take_all, get_or-take, length-take-le}
-use Rattle.base.specs.Refusals.{Row, refusal, unless, answered}
+use Rattle.base.specs.Refusals.{Row, refusal, unless}
 use Rattle.base.proofs.Counting.{clash, no_leb}
-use Rattle.base.proofs.Refusing.{rows_none}
+use Rattle.base.proofs.Refusing.{rows_none, none_unless, none_answered}
 use Rattle.rules.specs.declared.Limits.{Limits}
 use Rattle.rules.specs.Sheet.{Sheet, area, sheet_of, sheet_in, over, needed}
 use Rattle.rules.specs.Palette.{Palette}
@@ -26,7 +26,7 @@ use Rattle.rules.specs.Entries.{orphans_refusal, orphans_answer, orphans_cells, 
 use Rattle.rules.specs.Claims.{Apart, KeepsOpaque}
 use Rattle.rules.specs.Promises.{WasFrozen, Made, initial, ruled, own_run, Cleans, Agree, with_passes, TwoCalls, CleansIf, before_run, after_run, RunPromise}
 use Rattle.rules.proofs.Shown.{cleaned, Frozen, Left, apart, frozen, barred}
-use Rattle.rules.proofs.Grids.{eight_symmetric}
+use Rattle.rules.proofs.Grids.{ruled_both_ways}
 use Rattle.rules.proofs.Runs.{run_length, run_kept, run_once, run_source, run_bounded, runs_large, runs_settled, runs_left, fresh_frozen, fresh-whole}
 use Rattle.rules.proofs.Images.{no_repeat}
 use Rattle.rules.proofs.Freezing.{was_frozen}
@@ -115,12 +115,7 @@ module _ (rule : Rule) (symm : Symmetric rule.adj) (start : List ℤ) (len : len
 
 -- ---- cleaning a sheet
 
--- a sheet has eight neighbours
-pub ruled_both_ways : (palette : Palette) (limits : Limits) (s : Sheet) → Symmetric (rule_for palette limits s).adj
-unfolding rule_for rule_on
-ruled_both_ways palette limits s = eight_symmetric s.width
-
--- and every index may be decided
+-- every index may be decided
 all_free : (palette : Palette) (limits : Limits) (s : Sheet) (i : ℕ) → (rule_for palette limits s).free i ≡ true
 unfolding rule_for rule_on
 all_free palette limits s i = refl
@@ -145,7 +140,7 @@ module _ (palette : Palette) (limits : Limits) (s : Sheet) (len : length s.cells
         made = λ y.
             let e' : left ≡ (clean_sheet k palette limits s).sheet = rw y at e in
             rw y (cleans rule (ruled_both_ways palette limits s) s.cells whole k left.cells (λ x l. ap (λ (t : Sheet). at t.cells x) e'));
-        skipped = λ z. let e' : left ≡ s = rw z at e in (e', rw z);
+        skipped = λ z. (e ∙ ap (λ b. (clean_sheet_if b k palette limits s).sheet) z, ap (λ b. (clean_sheet_if b k palette limits s).passes) z);
         height = ap (λ (t : Sheet). t.height) e ∙ size.height;
         width = ap (λ (t : Sheet). t.width) e ∙ size.width;
         free = all_free palette limits s;
@@ -169,15 +164,15 @@ module _ (c : OrphansCall) (accepted : orphans_refusal c ≡ None) where
 
   -- two accepted calls
   pub two_calls : (q work : ℕ) → orphans_refusal (with_passes q work c) ≡ None → c.passes ≤ q → TwoCalls c q work
-  unfolding orphans_answer orphans_cells answered unless clean_sheet cleaned with_passes
+  unfolding orphans_answer orphans_cells unless clean_sheet cleaned with_passes
   two_calls q work accepted' l =
       let start = (sheet_in c.lent).cells in
       let both_ways = ruled_both_ways c.palette c.limits (sheet_in c.lent) in
       record {
         count = (ruled called start c.passes).count;
         count' = (ruled called start q).count;
-        answers = rw accepted;
-        answers' = rw accepted';
+        answers = sym (none_answered _ accepted refl);
+        answers' = sym (none_answered _ accepted' refl);
         agree = rw (accepted, accepted')
             (agree called both_ways start orphans_whole (λ r. over r c.lent.cells)
             (λ k. front_over _ c.lent.cells called.places (ruled-length called both_ways start orphans_whole k)) c.passes q l);
@@ -212,18 +207,18 @@ module _ (c : RunCall) (accepted : run_refusal c ≡ None) where
 
   -- an accepted call
   pub run_promise : RunPromise c
-  unfolding run_answer run_palette answered unless facts_of process first_cleaning second_cleaning before_run after_run
+  unfolding run_answer run_palette facts_of process first_cleaning second_cleaning before_run after_run
   run_promise =
       let limits = limits_of c.config in
       record {
         facts = facts_of result.sheet result.palette result.index result.clipped;
         passes = result.passes;
         again = result.again;
-        answers = rw accepted;
+        answers = sym (none_answered _ accepted refl);
         first = cleans_if (toned_palette c) limits came came-whole c.config.remove_orphans 5 (first_cleaning c).sheet refl;
         second = cleans_if (outlined_run c).palette limits (outlined_run c).sheet met_whole (cleans_again c.config) 1 _ left-sheet;
         sheet = left-sheet;
-        lab = rw accepted;
+        lab = sym (none_unless _ _ accepted refl);
         told = refl;
         opacity = subst (KeepsOpaque (asked c.config.outline) (before_run c)) (sym left-sheet) (run_opaque c came-whole);
       }

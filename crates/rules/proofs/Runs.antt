@@ -21,7 +21,7 @@ clean_go rule k s y = rw (y, clean)
 
 pub clean_stop : (rule : Rule) (k : ℕ) (s : State) → moves rule (fates rule s) ≡ false → clean rule (suc k) s ≡ record { state = pass rule s; count = 0 }
 unfolding clean pass
-clean_stop rule k s z = rw (z, clean)
+clean_stop rule k s z = rw (z, clean) refl
 
 paint_go : (rule : Rule) (k : ℕ) (s : State) (x : ℕ) → moves rule (fates rule s) ≡ true → repaintings rule (suc k) s x ≡ cond (repaints rule s x) 1 0 + repaintings rule k (pass rule s) x
 unfolding repaintings
