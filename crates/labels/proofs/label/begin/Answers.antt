@@ -101,20 +101,8 @@ bounds-work-n-4 c =
     let e = c.fill-full.ensures in
     end_in q.filled q.labelled_to q.s_bound c.if-word-le-MOST.false e.filled e.regions_value e.since
 
-pub returns-clause-filled_2 : goal.returns-clause-filled_2
-returns-clause-filled_2 c =
+pub returns : goal.returns
+returns c =
     let q = c.requires in
     let e = c.fill-full.ensures in
-    (ends q.filled q.labelled_to q.s_bound c.if-word-le-MOST.false e.filled e.regions_value e.since).0
-
-pub returns-clause-labelled_to_2 : goal.returns-clause-labelled_to_2
-returns-clause-labelled_to_2 c =
-    let q = c.requires in
-    let e = c.fill-full.ensures in
-    (ends q.filled q.labelled_to q.s_bound c.if-word-le-MOST.false e.filled e.regions_value e.since).1
-
-pub returns-clause-since : goal.returns-clause-since
-returns-clause-since c =
-    let q = c.requires in
-    let e = c.fill-full.ensures in
-    (ends q.filled q.labelled_to q.s_bound c.if-word-le-MOST.false e.filled e.regions_value e.since).2
+    let k = ends q.filled q.labelled_to q.s_bound c.if-word-le-MOST.false e.filled e.regions_value e.since in record { filled_2 = k.0; labelled_to_2 = k.1; since = k.2 }
