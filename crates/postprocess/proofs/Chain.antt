@@ -15,6 +15,7 @@ use Rattle.base.specs.Refusals.{answered}
 use Rattle.base.proofs.Counting.{any_same}
 use Rattle.base.proofs.Refusing.{some_unless, none_unless}
 use Rattle.rules.specs.declared.Limits.{Limits}
+use Rattle.rules.specs.declared.Drawing.{Drawing}
 use Rattle.rules.specs.declared.Facts.{Facts}
 use Rattle.rules.specs.declared.Processed.{Processed}
 use Rattle.rules.specs.Sheet.{Sheet, area, sheet_of, sheet_in, over, needed}
@@ -22,7 +23,7 @@ use Rattle.rules.specs.Palette.{Palette, palette_of}
 use Rattle.rules.specs.Corners.{trim}
 use Rattle.rules.specs.Outline.{asked, pads, canvas, ring, has_ring, Outlined}
 use Rattle.rules.specs.Calls.{RunCall}
-use Rattle.rules.specs.Run.{CleanedSheet, clean_sheet_if, limits_of, toned, toned_palette, drawing_of, outline_if, first_cleaning, outlined_run, cleans_again, second_cleaning, Processing, process}
+use Rattle.rules.specs.Run.{CleanedSheet, clean_sheet_if, limits_of, toned, toned_palette, pad_allowed, drawing_of, outline_if, first_cleaning, outlined_run, cleans_again, second_cleaning, Processing, process}
 use Rattle.rules.specs.Rows.{bad_index, no_entry}
 use Rattle.rules.specs.Entries.{facts_of, run_refusal, run_answer, run_cells, run_palette}
 use Rattle.rules.proofs.Sizes.{needed-least, canvas-area, canvas_sides, toned-count, toned-length}
@@ -128,17 +129,17 @@ module _ (x : RunCall) where
         known = reads a (λ t q. (bad_index true x.config.orphan_min_region q t).applies) ∙ row_clear true x.config.orphan_min_region p s (λ z l. c.known y l);
       }
 
-  -- ---- the steps of a call that is accepted
+  -- ---- a call that is accepted
 
   module _ (ok : run_refusal x ≡ None) where
     g : Granted x
     g = granting x ok
 
-    pub in_doubles : (3 * x.palette.count ≤ length x.palette.lab) × (x.palette.count ≤ 256)
-    in_doubles = (omega (arith, g.few, g.full), g.few)
-
     start : Stands x.lent.cells came x.lent.cells
     start = stands_start x.lent.cells h w (omega (arith, g.room.long, needed-least h w (padding x)))
+
+    pub in_doubles : (3 * x.palette.count ≤ length x.palette.lab) × (x.palette.count ≤ 256)
+    in_doubles = (omega (arith, g.few, g.full), g.few)
 
     ink-count : ink.count ≡ x.palette.count
     unfolding toned_palette
@@ -148,14 +149,7 @@ module _ (x : RunCall) where
     unfolding toned_palette
     ink-length = toned-length (x.saturated || x.fixed) x.config x.palette in_doubles.0 ∙ g.full
 
-    -- saturation
-    pub toned_holds : {kept : Bool} {lab : List Float} → kept ≡ (x.saturated || x.fixed) → lab ≡ (toned kept x.config x.palette).lab → Held came x.lent.cells lab
-    unfolding toned_palette
-    toned_holds e f =
-        let l = f ∙ ap (λ (b : Bool). (toned b x.config x.palette).lab) e in
-        record { stands = start; sheet = refl; palette = λ i. record { lab = l i; count = sym ink-count i } }
-
-    -- the first cleaning
+    -- the sheet as it came
     known_before : Known came ink
     known_before y l =
         subst (λ (n : ℕ). Named n came.cells) (sym ink-count)
@@ -173,36 +167,14 @@ module _ (x : RunCall) where
           known = known_before;
         }
 
-    pub first_fit : {cells : List ℤ} {lab : List Float} → Held came cells lab → on ≡ true → Fit cells h w lab x.palette.count x.config.orphan_min_region x.lent.work
-    first_fit a = fit a cleanable_before
-
+    -- the sheet after the first cleaning, and after corners
     alike-first : Alike came first
     unfolding first_cleaning
     alike-first = cleaned-alike on 5 ink limits came start.full
 
-    pub first_passes : {cells : List ℤ} {lab : List Float} {n : ℕ} → Held came cells lab
-        → n ≡ (clean_sheet_if on 5 (palette_of lab x.palette.count) limits (sheet_of cells h w)).passes → n ≡ (clean_sheet_if on 5 ink limits came).passes
-    unfolding first_cleaning
-    first_passes a e = e ∙ reads a (λ t q. (clean_sheet_if on 5 q limits t).passes)
-
-    pub first_holds : {cells new : List ℤ} {lab : List Float} → Held came cells lab
-        → new ≡ over (clean_sheet_if on 5 (palette_of lab x.palette.count) limits (sheet_of cells h w)).sheet.cells cells → Held first new lab
-    unfolding first_cleaning
-    first_holds a = keeps a (λ t q. (clean_sheet_if on 5 q limits t).sheet) alike-first
-
-    -- corners
-    pub trim_room : {s : Sheet} {cells : List ℤ} {lab : List Float} {room : ℕ} → Held s cells lab → room ≡ x.lent.work
-        → (h ≤ 512) × (w ≤ 512) × (h * w ≤ length cells) × (8 * (h * w) ≤ room)
-    trim_room a e = (g.room.high, g.room.wide, sized a, omega (arith, e, g.room.free, needed-least h w (padding x)))
-
     alike-cut : Alike came cut
     alike-cut = trans alike-first (cut-alike x.config.fix_jaggies first alike-first.full)
 
-    pub cut_holds : {cells new : List ℤ} {lab : List Float} → Held first cells lab
-        → new ≡ over (cond x.config.fix_jaggies (trim (sheet_of cells h w)) (sheet_of cells h w)).cells cells → Held cut new lab
-    cut_holds a = keeps a (λ t q. cond x.config.fix_jaggies (trim t) t) (cut-alike x.config.fix_jaggies first alike-first.full)
-
-    -- the outline
     pads-cut : pads (drawing_of x) cut ≡ padding x
     pads-cut = pads-same alike-cut (drawing_of x)
 
@@ -213,27 +185,12 @@ module _ (x : RunCall) where
     unfolding no_entry
     entry-cut = rw (ring-alike canvas-cut, ink-count) g.entry
 
-    -- its room, and that of the palette
-    pub line_room : {cells : List ℤ} {lab : List Float} {room : ℕ} → Held cut cells lab → room ≡ x.lent.work
-        → SheetFits h w (needed h w (pads (drawing_of x) (sheet_of cells h w))) (length cells) room × (length lab ≡ 768) × (x.palette.count ≤ 256)
-    line_room {cells} {lab} a e =
-        let n = reads a (λ t q. needed h w (pads (drawing_of x) t)) ∙ ap (needed h w) pads-cut in (
-          record {
-            high = g.room.high;
-            wide = g.room.wide;
-            few = g.room.few;
-            long = omega (arith, n, g.room.long, stands_size a.stands);
-            free = omega (arith, n, e, g.room.free);
-          },
-          ap (λ (q : Palette). length q.lab) a.palette ∙ ink-length,
-          g.few,
-        )
-
     known_cut : Known cut ink
     unfolding first_cleaning
     known_cut y l =
         cut_named first (cleaned_named on 5 ink limits came start.full (known_before y l)) x.config.fix_jaggies
 
+    -- the sheet after the outline
     lined_cut : Lined ink cut line
     unfolding outlined_run
     lined_cut = lined (λ i. true) (drawing_of x) ink cut (omega (arith, g.few, ink-count)) entry-cut
@@ -250,30 +207,6 @@ module _ (x : RunCall) where
     unfolding area sheet_of
     grown = rw (alike-cut.height, alike-cut.width) (omega (arith, line-area, needed-least h w (padding x)))
 
-    -- facts of an outlined sheet
-    abbrev pub Told : Facts → Type 0
-    Told facts = facts ≡ facts_of line.sheet line.palette line.index line.clipped
-
-    module _ {cells new : List ℤ} {lab doubles : List Float} {facts : Facts} (a : Held cut cells lab)
-        (d : Drew (outline_if (λ i. true) (drawing_of x) (palette_of lab x.palette.count) (sheet_of cells h w)) cells facts new doubles) where
-      drew : Drew line cells facts new doubles
-      unfolding outlined_run
-      drew = subst (λ (o : Outlined). Drew o cells facts new doubles) (reads a (λ t q. outline_if (λ i. true) (drawing_of x) q t)) d
-
-      pub line-told : Told facts
-      line-told = drew.told
-
-      pub line_holds : Holds x.lent.cells line.sheet line.palette new facts.height facts.width doubles facts.colours
-      unfolding facts_of
-      line_holds =
-          let n = stands_next a.stands drew.cells shown.full grown (omega (arith, line-area, g.room.long)) in
-          record {
-            stands = n;
-            sheet = stands_sheet facts.height facts.width n (sym (ap (λ (f : Facts). f.height) line-told)) (sym (ap (λ (f : Facts). f.width) line-told));
-            palette = λ i. record { lab = drew.doubles i; count = (line-told i).colours };
-          }
-
-    -- the second cleaning
     cleanable_line : Cleanable line.sheet line.palette
     unfolding sheet_of
     cleanable_line =
@@ -286,6 +219,10 @@ module _ (x : RunCall) where
           doubles = lined_cut.full ∙ ink-length;
           known = λ y l. lined_cut.named (known_cut y l);
         }
+
+    -- and after the second cleaning
+    abbrev redo : Sheet → Palette → CleanedSheet
+    redo t q = clean_sheet_if (cleans_again x.config) 1 q limits t
 
     alike-second : Alike line.sheet second
     unfolding second_cleaning
@@ -303,33 +240,97 @@ module _ (x : RunCall) where
           full = cleanable_line.doubles;
         }
 
-    abbrev redo : Sheet → Palette → CleanedSheet
-    redo t q = clean_sheet_if (cleans_again x.config) 1 q limits t
+    -- ---- its steps, each with the lists that it left
 
-    module _ {cells : List ℤ} {h w : ℕ} {lab : List Float} {k : ℕ} (a : Holds x.lent.cells line.sheet line.palette cells h w lab k) where
-      pub second_fit : {room : ℕ} → room ≡ x.lent.work → on ≡ true → Fit cells h w lab k x.config.orphan_min_region room
-      second_fit e y = rw e (fit a cleanable_line y)
+    -- saturation
+    module _ {kept : Bool} {lab : List Float} (keeps_it : kept ≡ (x.saturated || x.fixed)) (tones : lab ≡ (toned kept x.config x.palette).lab) where
+      toned_holds : Held came x.lent.cells lab
+      unfolding toned_palette
+      toned_holds =
+          let l = tones ∙ ap (λ (b : Bool). (toned b x.config x.palette).lab) keeps_it in
+          record { stands = start; sheet = refl; palette = λ i. record { lab = l i; count = sym ink-count i } }
 
-      -- the palette's doubles are as many as they were
-      pub same-doubles : length lab ≡ length x.palette.lab
-      same-doubles = ap (λ (q : Palette). length q.lab) a.palette ∙ cleanable_line.doubles ∙ sym g.full
+      pub first_fit : on ≡ true → Fit x.lent.cells h w lab x.palette.count x.config.orphan_min_region x.lent.work
+      first_fit = fit toned_holds cleanable_before
 
-      told-second : {facts : Facts} → Told facts → facts ≡ facts_of second line.palette line.index line.clipped
-      unfolding facts_of
-      told-second is =
-          is ∙ (λ i. record {
-            height = sym alike-second.height i;
-            width = sym alike-second.width i;
-            colours = line.palette.count;
-            outline_index = line.index;
-            outline_clipped = line.clipped;
-          })
+      -- the first cleaning
+      module _ {cells : List ℤ} (cleans : cells ≡ over (clean_sheet_if on 5 (palette_of lab x.palette.count) limits (sheet_of x.lent.cells h w)).sheet.cells x.lent.cells) where
+        first_holds : Held first cells lab
+        unfolding first_cleaning
+        first_holds = keeps toned_holds (λ t q. (clean_sheet_if on 5 q limits t).sheet) alike-first cleans
 
-      -- all of it is the rule
-      pub met_processed : {facts : Facts} {n m : ℕ} {new : List ℤ} → n ≡ (clean_sheet_if on 5 ink limits came).passes → Told facts
-          → m ≡ (redo (sheet_of cells h w) (palette_of lab k)).passes → new ≡ over (redo (sheet_of cells h w) (palette_of lab k)).sheet.cells cells → Met x (Ok (record { facts = facts; passes = n; again = m })) new lab
-      unfolding run_answer answered run_cells run_palette process first_cleaning second_cleaning
-      met_processed once is more e =
-          let twice = more ∙ reads a (λ t q. (redo t q).passes) in
-          let last = keeps a (λ t q. (redo t q).sheet) alike-second e in
-          (none_unless _ _ ok (λ i. Ok (record { facts = told-second is i; passes = once i; again = twice i })), none_unless _ _ ok last.stands.is, none_unless _ _ ok (ap (λ (q : Palette). q.lab) a.palette))
+        pub trim_room : {room : ℕ} → room ≡ x.lent.work → (h ≤ 512) × (w ≤ 512) × (h * w ≤ length cells) × (8 * (h * w) ≤ room)
+        trim_room e = (g.room.high, g.room.wide, sized first_holds, omega (arith, e, g.room.free, needed-least h w (padding x)))
+
+        -- corners, and how the outline is drawn
+        module _ {trimmed : List ℤ} {how : Drawing} (trims : trimmed ≡ over (cond x.config.fix_jaggies (trim (sheet_of cells h w)) (sheet_of cells h w)).cells cells)
+            (is : how ≡ record { outline = x.config.outline; allow_pad = pad_allowed x.config x.margin; fixed_palette = x.fixed }) where
+          cut_holds : Held cut trimmed lab
+          cut_holds = keeps first_holds (λ t q. cond x.config.fix_jaggies (trim t) t) (cut-alike x.config.fix_jaggies first alike-first.full) trims
+
+          drawing : how ≡ drawing_of x
+          unfolding drawing_of
+          drawing = is
+
+          -- there is room for the outline
+          pub line_room : {room : ℕ} → room ≡ x.lent.work → SheetFits h w (needed h w (pads how (sheet_of trimmed h w))) (length trimmed) room
+          line_room e =
+              let n = ap (λ (d : Drawing). needed h w (pads d (sheet_of trimmed h w))) drawing ∙ reads cut_holds (λ t q. needed h w (pads (drawing_of x) t)) ∙ ap (needed h w) pads-cut in
+              record {
+                high = g.room.high;
+                wide = g.room.wide;
+                few = g.room.few;
+                long = omega (arith, n, g.room.long, stands_size cut_holds.stands);
+                free = omega (arith, n, e, g.room.free);
+              }
+
+          pub line_palette : (length lab ≡ 768) × (x.palette.count ≤ 256)
+          line_palette = (ap (λ (q : Palette). length q.lab) cut_holds.palette ∙ ink-length, g.few)
+
+          -- the outline
+          module _ {lined_cells : List ℤ} {doubles : List Float} {facts : Facts}
+              (draws : Drew (outline_if (λ i. true) how (palette_of lab x.palette.count) (sheet_of trimmed h w)) trimmed facts lined_cells doubles) where
+            drew : Drew line trimmed facts lined_cells doubles
+            unfolding outlined_run
+            drew =
+                subst (λ (o : Outlined). Drew o trimmed facts lined_cells doubles)
+                (ap (λ (d : Drawing). outline_if (λ i. true) d (palette_of lab x.palette.count) (sheet_of trimmed h w)) drawing ∙ reads cut_holds (λ t q. outline_if (λ i. true) (drawing_of x) q t)) draws
+
+            line_holds : Holds x.lent.cells line.sheet line.palette lined_cells facts.height facts.width doubles facts.colours
+            unfolding facts_of
+            line_holds =
+                let n = stands_next cut_holds.stands drew.cells shown.full grown (omega (arith, line-area, g.room.long)) in
+                record {
+                  stands = n;
+                  sheet = stands_sheet facts.height facts.width n (sym (ap (λ (f : Facts). f.height) drew.told)) (sym (ap (λ (f : Facts). f.width) drew.told));
+                  palette = λ i. record { lab = drew.doubles i; count = (drew.told i).colours };
+                }
+
+            pub second_fit : {room : ℕ} → room ≡ x.lent.work → on ≡ true → Fit lined_cells facts.height facts.width doubles facts.colours x.config.orphan_min_region room
+            second_fit e y = rw e (fit line_holds cleanable_line y)
+
+            told-second : facts ≡ facts_of second line.palette line.index line.clipped
+            unfolding facts_of
+            told-second =
+                drew.told ∙ (λ i. record {
+                  height = sym alike-second.height i;
+                  width = sym alike-second.width i;
+                  colours = line.palette.count;
+                  outline_index = line.index;
+                  outline_clipped = line.clipped;
+                })
+
+            -- all of it is the rule
+            pub met_processed : {n m : ℕ} {new : List ℤ} → n ≡ (clean_sheet_if on 5 (palette_of lab x.palette.count) limits (sheet_of x.lent.cells h w)).passes
+                → m ≡ (redo (sheet_of lined_cells facts.height facts.width) (palette_of doubles facts.colours)).passes
+                → new ≡ over (redo (sheet_of lined_cells facts.height facts.width) (palette_of doubles facts.colours)).sheet.cells lined_cells
+                → Met x (Ok (record { facts = facts; passes = n; again = m })) new doubles
+            unfolding run_answer answered run_cells run_palette process first_cleaning second_cleaning
+            met_processed n m e =
+                let once = n ∙ reads toned_holds (λ t q. (clean_sheet_if on 5 q limits t).passes) in
+                let twice = m ∙ reads line_holds (λ t q. (redo t q).passes) in
+                let last = keeps line_holds (λ t q. (redo t q).sheet) alike-second e in (
+                  none_unless _ _ ok (λ i. Ok (record { facts = told-second i; passes = once i; again = twice i })),
+                  none_unless _ _ ok last.stands.is,
+                  none_unless _ _ ok (ap (λ (q : Palette). q.lab) line_holds.palette),
+                )
