@@ -37,10 +37,10 @@ loop-preserved g c =
     elim c.match-read_at.branch [
       | in-Ok w ↦
           let read = w.in-Ok.ensures in
-          let more = seam c.loop.buffer bytes c.loop.count w.in-Ok.n (omega (arith, read.fits)) front in
+          let more = ap (λ k. take k bytes) w.count-is ∙ seam c.loop.buffer bytes c.loop.count w.in-Ok.n (omega (arith, read.fits)) front in
           record {
             in_bounds = omega (arith, w.count-is, read.fits);
-            bytes = rw (w.count-is, more) (consumes_both _ _ _ _ _ before.bytes read.ok);
+            bytes = rw more (consumes_both _ _ _ _ _ before.bytes read.ok);
           }
       | in-Err+else-ne w ↦
           record {
