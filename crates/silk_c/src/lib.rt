@@ -75,6 +75,7 @@ pub fn silk_hex_to_rgb8(text: &[u8], out: &mut [u8]) -> u32
 }
 
 // The labels of a sheet's regions; one fact: their number.
+#[tactic(auto, using(crate::proofs::FactsRows::facts_rows_cases, crate::proofs::FactsRows::facts_room))]
 pub fn silk_label_regions(
     cells: &[i32],
     h: usize,
@@ -96,6 +97,7 @@ pub fn silk_label_regions(
 }
 
 // The labels of a mask's regions; one fact: their number.
+#[tactic(auto, using(crate::proofs::FactsRows::facts_rows_cases, crate::proofs::FactsRows::facts_room))]
 pub fn silk_label4(
     mask: &[u8],
     h: usize,
@@ -132,6 +134,7 @@ pub fn silk_binary_dilation8(
 }
 
 // Cleaning over the lent cells; one fact: the count of repainting passes.
+#[tactic(auto, using(crate::proofs::FactsRows::facts_rows_cases, crate::proofs::FactsRows::facts_room))]
 pub fn silk_remove_orphans(
     cells: &mut [i32],
     h: usize,
@@ -192,6 +195,7 @@ fn outline_of(kind: u32, darken: f64, r: u8, g: u8, b: u8) -> Outline
 }
 
 // An outline drawn over the lent cells and palette; five facts: height, width, colours, index (one more, 0 for none), clipped.
+#[tactic(auto, using(crate::proofs::FactsRows::facts_rows_cases, crate::proofs::FactsRows::facts_room))]
 pub fn silk_add_outline(
     cells: &mut [i32],
     h: usize,
@@ -271,6 +275,7 @@ fn config_of(
 }
 
 // All steps over the lent cells and palette; seven facts: those of an outline, and the passes of both cleanings.
+#[tactic(auto, using(crate::proofs::FactsRows::facts_rows_cases, crate::proofs::FactsRows::facts_room))]
 pub fn silk_run(
     cells: &mut [i32],
     h: usize,
