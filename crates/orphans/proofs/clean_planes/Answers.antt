@@ -7,6 +7,12 @@ use Rattle.orphans.proofs.AtStart.{labelling, labelled_groups, labelled-few, pas
 use Rattle.orphans.proofs.Continuing.{cleaned_none, cleaned_still, cleaned-first, cleaned-more}
 use Rattle.orphans.proofs.clean_planes.Goals as goal
 
+pub returns : goal.returns
+unfolding rule_of
+returns c =
+    let u = labelling {grid = c.args.judge.grid} {by = c.args.judge.by} c.requires.sized c.requires.indexed c.label_planes-t.result c.wipe.ensures c.label_planes-t.ensures.labelled c.label_planes-t.ensures.planes_kept in
+    cleaned-more _ _ _ _ refl (start_unfrozen u c.wipe-2.ensures c.mark_large.ensures) c.requires.indexed (omega (arith, c.if-max_passes-eq0.false)) c.first_pass-end.ensures (omega (arith, c.if-end-eq0.false)) c.later_passes-more.ensures.0
+
 pub overflow_mul-n : goal.overflow_mul-n
 overflow_mul-n c = omega (arith, area c.args.judge.grid.h c.args.judge.grid.w c.requires.sized.rows c.requires.sized.cols)
 
@@ -58,9 +64,3 @@ later_passes-more-requires c = c.first_pass-end.ensures.next (omega (arith, c.if
 
 pub overflow_add-result : goal.overflow_add-result
 overflow_add-result c = omega (arith, c.later_passes-more.ensures.1, c.ranges.max_passes)
-
-pub returns : goal.returns
-unfolding rule_of
-returns c =
-    let u = labelling {grid = c.args.judge.grid} {by = c.args.judge.by} c.requires.sized c.requires.indexed c.label_planes-t.result c.wipe.ensures c.label_planes-t.ensures.labelled c.label_planes-t.ensures.planes_kept in
-    cleaned-more _ _ _ _ refl (start_unfrozen u c.wipe-2.ensures c.mark_large.ensures) c.requires.indexed (omega (arith, c.if-max_passes-eq0.false)) c.first_pass-end.ensures (omega (arith, c.if-end-eq0.false)) c.later_passes-more.ensures.0

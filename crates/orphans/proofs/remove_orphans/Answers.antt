@@ -9,6 +9,15 @@ use Rattle.refusals.proofs.Rows.{sheet_room, palette_room}
 use Rattle.orphans.proofs.Refusing.{met_refused, met_cleaned, by_sheet, by_palette, by_index, accepted, fits}
 use Rattle.orphans.proofs.remove_orphans.Goals as goal
 
+pub returns : goal.returns
+unfolding bad_limits
+returns c =
+    let one = answered_none (tt {0}) c.in_ok-sheet_refusal.ensures refl in
+    let two = answered_none (tt {0}) c.in_ok-palette_refusal.ensures refl in
+    let index = rw (to_z-of_z c.ranges.orphan_min_region) at c.bad_index.ensures in
+    met_cleaned _ (accepted _ one c.bad_limits.ensures two (sym index ∙ c.if-bad_index.false)) _ _
+    (rw (to_z-of_z c.ranges.orphan_min_region) at c.clean_sheet.ensures.value) (rw (to_z-of_z c.ranges.orphan_min_region) at c.clean_sheet.ensures.cells_after)
+
 pub returns-in_err-sheet_refusal : goal.returns-in_err-sheet_refusal
 returns-in_err-sheet_refusal c =
     let r : c.from_residual.result ≡ Err c.in_err-sheet_refusal.field-0.0 = search rules in
@@ -47,12 +56,3 @@ clean_sheet-requires c =
     let two = answered_none (tt {0}) c.in_ok-palette_refusal.ensures refl in
     let index = rw (to_z-of_z c.ranges.orphan_min_region) at c.bad_index.ensures in
     rw (to_z-of_z c.ranges.orphan_min_region) (fits _ one c.bad_limits.ensures two (sym index ∙ c.if-bad_index.false))
-
-pub returns : goal.returns
-unfolding bad_limits
-returns c =
-    let one = answered_none (tt {0}) c.in_ok-sheet_refusal.ensures refl in
-    let two = answered_none (tt {0}) c.in_ok-palette_refusal.ensures refl in
-    let index = rw (to_z-of_z c.ranges.orphan_min_region) at c.bad_index.ensures in
-    met_cleaned _ (accepted _ one c.bad_limits.ensures two (sym index ∙ c.if-bad_index.false)) _ _
-    (rw (to_z-of_z c.ranges.orphan_min_region) at c.clean_sheet.ensures.value) (rw (to_z-of_z c.ranges.orphan_min_region) at c.clean_sheet.ensures.cells_after)
