@@ -12,12 +12,6 @@ pub returns-then-decided : goal.returns-then-decided
 unfolding as_number
 returns-then-decided c = let r = c.requires in judged-done _ _ r.grouped_sheet.0 r.sound.0 r.grouped_sheet.1 c.if-decided.true
 
-pub bounds-work-n-3 : goal.bounds-work-n-3
-bounds-work-n-3 c =
-    let r = c.requires in
-    let l = first_in _ _ r.grouped_sheet.0 r.sound.0 r.grouped_sheet.1 c.region_span-span.result c.region_span-span.ensures in
-    omega arith
-
 pub returns-then-large : goal.returns-then-large
 unfolding as_number
 returns-then-large c =
@@ -27,6 +21,27 @@ returns-then-large c =
       | then-large-via-then-large w ↦ judged_big _ _ r.grouped_sheet.0 r.sound.0 r.grouped_sheet.1 span.result span.ensures w.if-large.true
       | then-large-via-else-large+then-not-large_around w ↦ judged_silent _ _ r.grouped_sheet.0 r.sound.0 r.grouped_sheet.1 span.result span.ensures c.if-decided.false w.if-large.false r.indexed r.sound.1 (w.large_around.ensures w.if-not-large_around.true)
     ]
+
+pub returns-in-Some : goal.returns-in-Some
+returns-in-Some c =
+    let r = c.requires in
+    let sheet = r.grouped_sheet.0 in
+    let span = c.region_span-span in
+    let s = group-stretch r.grouped_sheet.1 span.ensures in
+    judged_agreed _ _ sheet r.sound.0 r.grouped_sheet.1 span.result span.ensures c.if-decided.false c.if-large.false r.indexed
+    (one_paint_lem c.args.self.now.grid c.args.work.now sheet span.result.from span.result.to c.in-Some.paint s.rises c.in-Some.ensures)
+    (ap as_number c.unanimous.ensures)
+
+pub returns : goal.returns
+returns c =
+    let r = c.requires in
+    judged_polled _ _ r.grouped_sheet.0 r.sound.0 r.grouped_sheet.1 c.region_span-span.result c.region_span-span.ensures c.if-decided.false c.if-large.false r.indexed r.sound.1 c.poll.ensures (ap as_number c.by_votes.ensures)
+
+pub bounds-work-n-3 : goal.bounds-work-n-3
+bounds-work-n-3 c =
+    let r = c.requires in
+    let l = first_in _ _ r.grouped_sheet.0 r.sound.0 r.grouped_sheet.1 c.region_span-span.result c.region_span-span.ensures in
+    omega arith
 
 pub bounds-work-first : goal.bounds-work-first
 bounds-work-first c =
@@ -67,16 +82,6 @@ unanimous-requires c =
     let m = one_some sheet u in
     (omega (arith, paint_some _ _ sheet r.sound.0 r.grouped_sheet.1 span.result span.ensures, r.indexed.few), omega (arith, r.indexed.few))
 
-pub returns-in-Some : goal.returns-in-Some
-returns-in-Some c =
-    let r = c.requires in
-    let sheet = r.grouped_sheet.0 in
-    let span = c.region_span-span in
-    let s = group-stretch r.grouped_sheet.1 span.ensures in
-    judged_agreed _ _ sheet r.sound.0 r.grouped_sheet.1 span.result span.ensures c.if-decided.false c.if-large.false r.indexed
-    (one_paint_lem c.args.self.now.grid c.args.work.now sheet span.result.from span.result.to c.in-Some.paint s.rises c.in-Some.ensures)
-    (ap as_number c.unanimous.ensures)
-
 pub poll-requires-clause-grouped_sheet : goal.poll-requires-clause-grouped_sheet
 poll-requires-clause-grouped_sheet c = (c.requires.grouped_sheet.0, group-stretch c.requires.grouped_sheet.1 c.region_span-span.ensures)
 
@@ -92,8 +97,3 @@ by_votes-requires c =
     let some = paint_some _ _ r.grouped_sheet.0 r.sound.0 r.grouped_sheet.1 span.result span.ensures in
     let most = paint_most _ _ r.grouped_sheet.0 r.sound.0 r.grouped_sheet.1 span.result span.ensures r.indexed in
     (r.indexed.few, omega arith)
-
-pub returns : goal.returns
-returns c =
-    let r = c.requires in
-    judged_polled _ _ r.grouped_sheet.0 r.sound.0 r.grouped_sheet.1 c.region_span-span.result c.region_span-span.ensures c.if-decided.false c.if-large.false r.indexed r.sound.1 c.poll.ensures (ap as_number c.by_votes.ensures)
