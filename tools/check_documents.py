@@ -1,10 +1,11 @@
 #!/usr/bin/env python3
-"""Looks whether the documents and the edits that must fail fit the tree: check_documents.py
+"""Looks whether the documents, the edits that must fail and the names of definitions fit the tree: check_documents.py
 
 - docs/PROMISES.md: in each row every file, every edit that must fail, and every name, in the file that is said to hold it.
 - crates/*/must-fail: each edit names a file of its crate, its old text stands there once, and the new one is another.
 - README.md: the table of crates has each crate of crates.txt, below those that it stands on, and no other.
 - every link from one document to a file.
+- crates/*/specs: no name is defined in two crates, fields and constructors aside, so that one name is one thing.
 
 Prints what is wrong, and how many of each there are.
 """
@@ -157,9 +158,24 @@ def links():
         f"{os.path.relpath(page, ROOT)}: no file {link}" for page, link in named if not os.path.exists(os.path.join(os.path.dirname(page), link))]
 
 
+def definitions():
+    homes = {}
+    for path in sorted(glob.glob(os.path.join(CRATES, "*", "specs", "**", "*.antt"), recursive=True)):
+        for name in re.findall(r"^ *(?:pub )?(?:unfoldable|abbrev|record|data) (?:pub )?([^\s:({]+)", text(path), re.M):
+            homes.setdefault(name, []).append(os.path.relpath(path, CRATES))
+    crates_of = {name: {path.split(os.sep)[0] for path in paths} for name, paths in homes.items()}
+    return len(homes), [f"{name} is defined in {' and '.join(homes[name])}" for name in homes if len(crates_of[name]) > 1]
+
+
 def main():
     failed = False
-    looks = {"rows of docs/PROMISES.md": promises, "edits that must fail": must_fail, "crates in README.md": crates, "links": links}
+    looks = {
+        "rows of docs/PROMISES.md": promises,
+        "edits that must fail": must_fail,
+        "crates in README.md": crates,
+        "links": links,
+        "names of definitions": definitions,
+    }
     for what, look in looks.items():
         number, faults = look()
         for fault in faults:
