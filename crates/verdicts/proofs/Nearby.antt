@@ -33,16 +33,16 @@ eight_apart w p q e =
     record { up = leb_yes (left r s y); down = leb_yes (right r s y); left = leb_yes (left c d x); right = leb_yes (right c d x) }
 
 -- so a neighbour stands in one of the three rows of three
-data Around (w p q : ℕ) : Type 0 where
-  above : (i : ℕ) → i < 3 → q + (w + 1) ≡ p + i → Around w p q
-  level : (i : ℕ) → i < 3 → q + 1 ≡ p + i → Around w p q
-  below : (i : ℕ) → i < 3 → q + 1 ≡ p + w + i → Around w p q
+data InRows (w p q : ℕ) : Type 0 where
+  above : (i : ℕ) → i < 3 → q + (w + 1) ≡ p + i → InRows w p q
+  level : (i : ℕ) → i < 3 → q + 1 ≡ p + i → InRows w p q
+  below : (i : ℕ) → i < 3 → q + 1 ≡ p + w + i → InRows w p q
 
 next_row : (w a b : ℕ) → a ≡ b + 1 → a * w ≡ b * w + w
 next_row w a b e = rw (e, add-one b) (omega arith)
 
-apart_around : (w p q : ℕ) → OneApart w p q → Around w p q
-apart_around w p q a =
+apart_rows : (w p q : ℕ) → OneApart w p q → InRows w p q
+apart_rows w p q a =
     let ep = div-add-mod' p w in
     let eq = div-add-mod' q w in
     let li : q % w + 1 - p % w < 3 = omega (arith, a.right) in
@@ -57,14 +57,14 @@ apart_around w p q a =
 -- what holds in three rows of three
 module _ (P : ℕ → Type 0) (w p : ℕ) (rim : w + 1 ≤ p) (over : (i : ℕ) → i < 3 → P (p - (w + 1) + i)) (mid : (i : ℕ) → i < 3 → P (p - 1 + i)) (under : (i : ℕ) → i < 3 → P (p + (w + 1) - 2 + i)) where
   -- holds where a neighbour stands
-  each_there : (q : ℕ) → Around w p q → P q
+  each_there : (q : ℕ) → InRows w p q → P q
   each_there q (above i l e) = let f : q ≡ p - (w + 1) + i = omega arith in rw f (over i l)
   each_there q (level i l e) = let f : q ≡ p - 1 + i = omega arith in rw f (mid i l)
   each_there q (below i l e) = let f : q ≡ p + (w + 1) - 2 + i = omega arith in rw f (under i l)
 
   -- holds of each neighbour
   pub near-each : (q : ℕ) → eight w p q ≡ true → P q
-  near-each q y = each_there q (apart_around w p q (eight_apart w p q y))
+  near-each q y = each_there q (apart_rows w p q (eight_apart w p q y))
 
 -- neighbours in four directions are neighbours in eight
 pub neighbours_in : (grid : Grid) (p q : ℕ) → q < area_of grid → adjoins grid p q ≡ true → eight grid.w p q ≡ true

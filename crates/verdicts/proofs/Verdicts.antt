@@ -100,8 +100,8 @@ module _ {grid : Grid} (by : Criteria) (palette : List Float) {a : List ℕ} (sh
   grouped = sound_grouped rule n a refl sound
 
   -- q neighbours a place of the group t
-  abbrev Around : ℕ → ℕ → Type 0
-  Around t = Beside grid a (end_of n a t) (end_of n a (suc t))
+  abbrev BesideGroup : ℕ → ℕ → Type 0
+  BesideGroup t = Beside grid a (end_of n a t) (end_of n a (suc t))
 
   module _ {t : ℕ} (g : Group n a t) where
     abbrev lead : ℕ
@@ -157,7 +157,7 @@ module _ {grid : Grid} (by : Criteria) (palette : List Float) {a : List ℕ} (sh
         voters = table n votes_at
 
         -- who votes is large, and beside a place of the group
-        voter_beside : (q : ℕ) → q < n → votes_at q ≡ true → Around t q × (plane n 5 a q ≡ 0 → ⊥)
+        voter_beside : (q : ℕ) → q < n → votes_at q ≡ true → BesideGroup t q × (plane n 5 a q ≡ 0 → ⊥)
         unfolding large_of
         voter_beside q l y =
             let p = any_yes n (near q) (right (large rule cells q) (any n (near q)) y) in
@@ -167,7 +167,7 @@ module _ {grid : Grid} (by : Criteria) (palette : List Float) {a : List ℕ} (sh
               (λ z. clash (left (large rule cells q) (any n (near q)) y) (sym (sound.flags q l) ∙ rw z)),
             )
 
-        beside_voter : (q : ℕ) → q < n → Around t q → (plane n 5 a q ≡ 0 → ⊥) → votes_at q ≡ true
+        beside_voter : (q : ℕ) → q < n → BesideGroup t q → (plane n 5 a q ≡ 0 → ⊥) → votes_at q ≡ true
         unfolding large_of
         beside_voter q l i z =
             let p = g.places i.0 i.1 i.2 in
@@ -233,7 +233,7 @@ module _ {grid : Grid} (by : Criteria) (palette : List Float) {a : List ℕ} (sh
 
         -- ---- the poll
 
-        module _ (b counts : List ℕ) (fresh : (q : ℕ) → q < n → plane n 5 a q ≡ t + 2 → ⊥) (polled : Polled n (t + 2) (Around t) a b counts) where
+        module _ (b counts : List ℕ) (fresh : (q : ℕ) → q < n → plane n 5 a q ≡ t + 2 → ⊥) (polled : Polled n (t + 2) (BesideGroup t) a b counts) where
           voter-is : (q : ℕ) → q < n → votes_at q ≡ eqb (plane n 5 b q) (t + 2)
           voter-is q l =
               same_test
@@ -335,7 +335,7 @@ module _ {grid : Grid} (by : Criteria) (palette : List Float) {a : List ℕ} (sh
           unfolding large_of
           judged_polled {b} {counts} polled {r} e =
               let ne : t + 2 ≡ 0 → ⊥ = (λ x. omega arith) in
-              let u : Polled n (t + 2) (Around t) a b counts = rw (ends.0, ends.1) at polled in
+              let u : Polled n (t + 2) (BesideGroup t) a b counts = rw (ends.0, ends.1) at polled in
               let right : (x : ℕ) → x < n → group x ≡ suc t → r ≡ fate_number (fate (fates rule s) x) = (λ x l i. (rw paint-read at e) ∙ polled_fate x l i free_now little_now known b counts (fresh free_now) u) in
               record {
                 kept = u.kept;
