@@ -11,16 +11,6 @@ pub returns-in-Stays : goal.returns-in-Stays
 unfolding as_number
 returns-in-Stays c = noted_still _ _ c.args.at _ _ _ c.requires.group.label (stage_room c.requires.stage c.requires.group).0 (rw c.in-Stays.is at c.verdict-verdict.ensures)
 
-pub set_region-requires-clause-group : goal.set_region-requires-clause-group
-unfolding as_number
-set_region-requires-clause-group c =
-    let n = area_of c.args.judge.now.grid in
-    let few = sheet-few c.requires.stage.sheet in
-    let frozen : as_number c.verdict-verdict.result ≡ c.as_number.result = ap as_number c.in-Frozen.is ∙ sym c.as_number.ensures in
-    let u = rw frozen at c.verdict-verdict.ensures in
-    group-alike (six_alike _ n c.args.at c.args.end _ _ c.requires.group.label (stage_room c.requires.stage c.requires.group).0 _ u (λ z. let o : c.as_number.result ≡ 1 = c.as_number.ensures in omega arith)
-    (6 * n + c.args.at) (omega arith) (omega (arith, c.verdict-verdict.ensures.kept.len, c.requires.group.label))) c.args.at c.requires.group
-
 pub returns-in-Frozen : goal.returns-in-Frozen
 unfolding as_number
 returns-in-Frozen c =
@@ -42,6 +32,16 @@ returns-in-Takes c =
     (noted_logged _ n c.args.at c.args.end _ _ c.requires.group.label (stage_room c.requires.stage c.requires.group).0 _ u some
     (6 * n + c.args.at) (omega arith) (omega (arith, c.verdict-verdict.ensures.kept.len, c.requires.group.label)) (λ z. omega arith) room
     (7 * n + c.args.end) (omega arith) (simp length-set (omega (arith, c.verdict-verdict.ensures.kept.len))))
+
+pub set_region-requires-clause-group : goal.set_region-requires-clause-group
+unfolding as_number
+set_region-requires-clause-group c =
+    let n = area_of c.args.judge.now.grid in
+    let few = sheet-few c.requires.stage.sheet in
+    let frozen : as_number c.verdict-verdict.result ≡ c.as_number.result = ap as_number c.in-Frozen.is ∙ sym c.as_number.ensures in
+    let u = rw frozen at c.verdict-verdict.ensures in
+    group-alike (six_alike _ n c.args.at c.args.end _ _ c.requires.group.label (stage_room c.requires.stage c.requires.group).0 _ u (λ z. let o : c.as_number.result ≡ 1 = c.as_number.ensures in omega arith)
+    (6 * n + c.args.at) (omega arith) (omega (arith, c.verdict-verdict.ensures.kept.len, c.requires.group.label))) c.args.at c.requires.group
 
 pub bounds-work-n-in-Takes-2 : goal.bounds-work-n-in-Takes-2
 unfolding as_number
