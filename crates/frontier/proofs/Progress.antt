@@ -91,9 +91,6 @@ module _ (rule : Rule) (symm : Symmetric rule.adj) (n : ℕ) (is-n : rule.places
     label_now : (x : ℕ) → x < n → plane n 1 a x ≡ plane n 1 a₀ x
     label_now x l = same 1 x (omega arith) l
 
-    lat : plane n 1 a₀ y - 1 ≡ at
-    lat = omega arith
-
     -- the numbers of other groups, in groups that are in use
     other : (x : ℕ) → x < n → 0 < plane n 1 a₀ x → (plane n 1 a₀ x - 1 ≡ at → ⊥) → plane n 1 a₀ x - 1 < n → plane n 6 b (plane n 1 a₀ x - 1) ≡ plane n 6 a (plane n 1 a₀ x - 1)
     other x l h z k = w.numbers (plane n 1 a₀ x - 1) k z

@@ -24,7 +24,7 @@ module _ {rule : Rule} {grid : Grid} {k end : ℕ} {a : List ℕ} (st : Stage ru
   pub of_rule : (x : ℕ) → x < rule.places → x < n
   of_rule x l = rw (← st.ruled.size) l
 
-  -- a pass may begin: the planes are sound, and a group with a number is frozen or large
+  -- a pass may begin: the places stand in groups, the flags tell the large ones, and all of those are a frontier
   pub stage_ready : Ready rule (state_of n a) (plane n 1 a) (large_of n a) (large rule (cells_of n a))
   unfolding state_of
   stage_ready = record {
