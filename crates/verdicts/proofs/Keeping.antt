@@ -9,7 +9,7 @@ use Rattle.grid.specs.declared.Grid.{Grid}
 use Rattle.grid.specs.Planes.{plane, end_of}
 use Rattle.grid.proofs.Places.{area}
 use Rattle.verdicts.specs.Steps.{area_of}
-use Rattle.verdicts.specs.Groups.{Planes, Group, GroupedSheet, CanVote}
+use Rattle.verdicts.specs.Groups.{Planes, Group, GroupedSheet}
 use Rattle.verdicts.specs.Polling.{MarksOnly, Polled}
 use Rattle.verdicts.proofs.Votes.{large_was}
 
@@ -19,9 +19,6 @@ sheet-few {grid} b = area grid.h grid.w b.rows b.cols
 
 pub sheet-planes : {grid : Grid} {work : List ℕ} → GroupedSheet grid work → Planes (area_of grid) work
 sheet-planes b = record { few = sheet-few b; room = b.room }
-
-pub sheet-votes : {grid : Grid} {work : List ℕ} → GroupedSheet grid work → CanVote (area_of grid) work
-sheet-votes b = record { few = sheet-few b; room = b.room; paint = b.paint; large = b.large }
 
 -- planes 1 to 3 are as they were
 pub record Alike (n : ℕ) (a b : List ℕ) : Type 0 where

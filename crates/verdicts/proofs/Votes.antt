@@ -1,10 +1,10 @@
 -- Cells that are asked for their vote, one after the other. Assumes nothing.
 use Prim.Native.Nat.{ℕ, ◌+◌, ◌*◌, ◌≤◌, ◌<◌}
-use mathlib.Core.Path.{◌≡◌, refl, sym, ap, ◌∙◌}
+use mathlib.Core.Path.{◌≡◌, refl, sym, ◌∙◌}
 use mathlib.Core.Logic.{◌⊎◌, inl, inr, ⊎_elim}
 use mathlib.Core.Bool.{true, false}
 use mathlib.Core.List.{List}
-use Rattle.std.specs.Prelude.{Option, None, Some}
+use Rattle.std.specs.Prelude.{Some}
 use native.Mathlib.Nat.{not-suc-le-zero}
 use native.Mathlib.Decide.{ℕ_discrete}
 use native.Mathlib.Omega.{arith}
@@ -17,7 +17,7 @@ use Rattle.base.proofs.Counting.{clash, left, eqb_yes, yes_eqb, count_same, coun
 use Rattle.grid.specs.declared.Grid.{Grid}
 use Rattle.grid.specs.Planes.{plane}
 use Rattle.grid.specs.Steps.{steps_of}
-use Rattle.grid.proofs.Places.{hop, some_inj, none_some, neighbours-sound, neighbours_complete}
+use Rattle.grid.proofs.Places.{hop, neighbours-sound, neighbours_complete}
 use Rattle.grid.proofs.Planes.{plane_read, plane-same, plane_else, plane_other}
 use Rattle.verdicts.specs.Steps.{area_of, adjoins}
 use Rattle.verdicts.specs.Groups.{CanVote}
@@ -159,14 +159,6 @@ module _ (n m : ℕ) (nonzero : m ≡ 0 → ⊥) where
         marks = λ x h. elim (ℕ_discrete x q) [ yes z ↦ inr (rw z here, z, rw z large) | no z ↦ inl (there x z) ];
         voted = λ x h y b. rw y here;
       }
-
-  -- a step finds nobody, or a cell that is asked
-  module _ {o : Option ℕ} {a counts : List ℕ} where
-    pub polled_off : o ≡ None → Tallied n a m counts → Polled n m (λ x. o ≡ Some x) a a counts
-    polled_off e t = polled_same (λ q h z. absurd z) (λ q h z. none_some (sym e ∙ z)) (polled_none a counts t)
-
-    pub polled_on : {b : List ℕ} (q : ℕ) → o ≡ Some q → Polled n m (λ x. x ≡ q) a b counts → Polled n m (λ x. o ≡ Some x) a b counts
-    polled_on q e u = polled_same (λ x h z. e ∙ ap (λ (x : ℕ). Some x) (sym z)) (λ x h z. some_inj (sym z ∙ e)) u
 
 -- ---- the neighbours of a place, step by step
 
