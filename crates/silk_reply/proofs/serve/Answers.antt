@@ -12,14 +12,14 @@ front : (text old : List ℕ) {new : List ℕ} → new ≡ over text old → tak
 unfolding over
 front text old e = rw e (take-append_seam text (drop (length text) old))
 
-pub slice_bounds-write_all-end : goal.slice_bounds-write_all-end
-slice_bounds-write_all-end g c =
-    let put = c.respond-count.ensures in
-    sym (length-take-le _ _ (omega (arith, put.value, within _ _ put.out_after)))
-
 pub returns-clause-bytes_written : goal.returns-clause-bytes_written
 returns-clause-bytes_written g c =
     let put = c.respond-count.ensures in
     let answer = silk_text (take c.read_full-n.result.count c.read_full-n.new.buffer) in
     let same : take c.respond-count.result c.respond-count.new.out ≡ answer = ap (λ k. take k c.respond-count.new.out) put.value ∙ front _ _ put.out_after in
     subst (λ l. OnOk c.write_all-written.result (Appends (g.W.Write.contents c.args.to.now) (g.W.Write.contents c.write_all-written.new.self) l)) same c.write_all-written.ensures.bytes
+
+pub slice_bounds-write_all-end : goal.slice_bounds-write_all-end
+slice_bounds-write_all-end g c =
+    let put = c.respond-count.ensures in
+    sym (length-take-le _ _ (omega (arith, put.value, within _ _ put.out_after)))
