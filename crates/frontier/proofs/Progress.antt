@@ -87,7 +87,7 @@ module _ (rule : Rule) (symm : Symmetric rule.adj) (n : ℕ) (is-n : rule.places
           let z' : plane n 6 a (plane n 1 a₀ p - 1) ≡ 0 = ap (plane n 6 a) k ∙ z in
           frozen_is n a p (rw (← is-n) b) ∙ u.frozen p b (omega arith) ∙ rw z' (unfrozen (marked s₀.frozen p) (eqb (plane n 6 a₀ (plane n 1 a₀ p - 1)) 0)))
 
-  module _ (at end : ℕ) (b : List ℕ) (v : ℕ) (w : Noted rule n at end a b v) (y : ℕ) (ly : y < n) (gy : plane n 1 a₀ y ≡ suc at) where
+  module _ (at end : ℕ) (b : List ℕ) (v : ℕ) (w : Noted rule n at end a b v) where
     label_now : (x : ℕ) → x < n → plane n 1 a x ≡ plane n 1 a₀ x
     label_now x l = same 1 x (omega arith) l
 
@@ -208,7 +208,7 @@ module _ {rule : Rule} {grid : Grid} {k from : ℕ} {a : List ℕ} (st : Stage r
       stage = stage_noted u.stage g v;
       same = λ i q l z. v.same i q l z ∙ u.same i q l z;
       large = λ q l. v.large q l ∙ u.large q l;
-      judging = judging_noted rule symm n e a b (large_of n a) (large rule (cells_of n a)) (stage_ready st) thaw_at u.same u.judging at end c r v lead lead-at.0 lead_in in_use;
+      judging = judging_noted rule symm n e a b (large_of n a) (large rule (cells_of n a)) (stage_ready st) thaw_at u.same u.judging at end c r v in_use;
       numbered = numbered';
       log = filed_trans n from end r a b c (λ q l. u.same 1 q (omega arith) l) was stays u.log
           (filed_noted rule n at end b c r v (λ x l b e. (u.stage.sheet.groups x l b e).label) lead lead-at.0 lead-at.1);
@@ -219,9 +219,6 @@ module _ {rule : Rule} {grid : Grid} {k from : ℕ} {a : List ℕ} (st : Stage r
 
         lead-at : (lead < n) × (plane n 1 b lead ≡ suc at)
         lead-at = g.places (end_of n b at) (omega arith) g.some
-
-        lead_in : plane n 1 a lead ≡ suc at
-        lead_in = sym (u.same 1 lead (omega arith) lead-at.0) ∙ lead-at.1
 
         in_use : (x : ℕ) → x < n → 0 < plane n 1 a x → plane n 1 a x - 1 < n
         in_use x l z = (u.stage.sheet.groups x (plane n 1 a x - 1) l (u.same 1 x (omega arith) l ∙ omega arith)).label
