@@ -15,19 +15,18 @@ use Rattle.rules.specs.Pass.{Rule, State, marked, large, small, fates, fate}
 use Rattle.rules.proofs.Roots.{join_right, opaque-below}
 use Rattle.rules.proofs.Passes.{small_or_large}
 use Rattle.rules.proofs.Frontier.{with_frozen, fate_local, fate-large}
-use Rattle.rules.proofs.Groups.{Ready}
 use Rattle.grid.specs.declared.Grid.{Grid}
-use Rattle.grid.specs.Planes.{plane, cells_of, end_of}
+use Rattle.grid.specs.Planes.{plane, end_of}
 use Rattle.grid.proofs.Planes.{cells_kept}
 use Rattle.verdicts.specs.declared.large.Span.{Span}
 use Rattle.verdicts.specs.Steps.{area_of}
-use Rattle.verdicts.specs.Judging.{state_of, fate_number, large_of}
+use Rattle.verdicts.specs.Judging.{state_of, fate_number}
 use Rattle.frontier.specs.Judging.{Judging, frozen_of, Noted, Stage, Met, Small}
 use Rattle.verdicts.specs.Groups.{Group}
 use Rattle.verdicts.proofs.Keeping.{sheet-few, group-alike}
 use Rattle.verdicts.proofs.Spans.{SpanTurn, span_turn, group-stretch}
 use Rattle.frontier.proofs.Stages.{frozen_is, stage_noted}
-use Rattle.frontier.proofs.Starts.{stage_ready}
+use Rattle.frontier.proofs.Starts.{in_rule, of_rule, stage_ready}
 use Rattle.frontier.proofs.Turns.{LogTurn, log_turn}
 use Rattle.frontier.proofs.Filing.{filed_start, filed_trans, filed_noted}
 
@@ -46,104 +45,6 @@ join_none false x = refl
 
 not_both : (v : ℕ) → (eqb v 0 && eqb v 1) ≡ false
 not_both v = elim (ℕ_discrete v 0) [ yes y ↦ rw y | no z ↦ rw (ne_eqb v 0 z) ]
-
-module _ (rule : Rule) (symm : Symmetric rule.adj) (n : ℕ) (is-n : rule.places ≡ n) (a₀ a : List ℕ) (big front : ℕ → Bool)
-    (r : Ready rule (state_of n a₀) (plane n 1 a₀) big front) (thaw : (x at : ℕ) → x < n → plane n 1 a₀ x ≡ suc at → plane n 6 a₀ at ≡ 0 → marked (state_of n a₀).frozen x ≡ false)
-    (same : (j q : ℕ) → j < 4 → q < n → plane n j a q ≡ plane n j a₀ q)
-    (u : Judging rule (state_of n a₀) (plane n 1 a₀) (plane n 6 a₀) (plane n 6 a) (frozen_of n a)) where
-  abbrev s₀ : State
-  s₀ = state_of n a₀
-
-  same_state : state_of n a ≡ with_frozen s₀ (state_of n a).frozen
-  unfolding state_of with_frozen
-  same_state = λ i. record { cells = cells_kept n a a₀ (λ p l. same 0 p (omega arith) l) i; frozen = (state_of n a).frozen }
-
-  in_n : (x : ℕ) → x < n → x < rule.places
-  in_n x l = rw is-n l
-
-  -- a group without a number had none
-  free_was : (x at : ℕ) → x < n → plane n 1 a₀ x ≡ suc at → plane n 6 a at ≡ 0 → plane n 6 a₀ at ≡ 0
-  free_was x at l e z =
-      let k : plane n 1 a₀ x - 1 ≡ at = omega arith in
-      ⊎_elim (λ i. sym (ap (plane n 6 a₀) k) ∙ sym i ∙ ap (plane n 6 a) k ∙ z) (λ i. sym (ap (plane n 6 a₀) k) ∙ i.0) (u.each x (in_n x l) (omega arith))
-
-  -- and its fate is that of the pass's start
-  pub fate-same : (x at : ℕ) → x < n → plane n 1 a₀ x ≡ suc at → plane n 6 a at ≡ 0 → fate (fates rule (state_of n a)) x ≡ fate (fates rule s₀) x
-  unfolding with_frozen frozen_of
-  fate-same x at l e z =
-      ap (λ (t : State). fate (fates rule t) x) same_state ∙ sym (⊎_elim little big_one (small_or_large rule symm s₀.cells r.grouped.size x o))
-    where
-      o : opaque s₀.cells x ≡ true
-      o = (r.grouped.shown x (in_n x l)).1 (omega arith)
-
-      big_one : large rule s₀.cells x ≡ true → fate (fates rule s₀) x ≡ fate (fates rule (with_frozen s₀ (state_of n a).frozen)) x
-      big_one y = fate-large rule symm s₀ r.grouped.size x (in_n x l) y ∙ sym (fate-large rule symm (with_frozen s₀ (state_of n a).frozen) r.grouped.size x (in_n x l) y)
-
-      little : small rule s₀.cells x ≡ true → fate (fates rule s₀) x ≡ fate (fates rule (with_frozen s₀ (state_of n a).frozen)) x
-      little y = fate_local rule symm s₀ r.grouped.size (state_of n a).frozen x o (λ p j.
-          let b : p < rule.places = opaque-below rule.places rule.adj s₀.cells r.grouped.size p (join_right rule.adj s₀.cells j) in
-          let g : plane n 1 a₀ x ≡ plane n 1 a₀ p = (r.grouped.region x p y b).0 j in
-          let k : plane n 1 a₀ p - 1 ≡ at = omega arith in
-          let z' : plane n 6 a (plane n 1 a₀ p - 1) ≡ 0 = ap (plane n 6 a) k ∙ z in
-          frozen_is n a p (rw (← is-n) b) ∙ u.frozen p b (omega arith) ∙ rw z' (unfrozen (marked s₀.frozen p) (eqb (plane n 6 a₀ (plane n 1 a₀ p - 1)) 0)))
-
-  module _ (at end : ℕ) (b : List ℕ) (v : ℕ) (w : Noted rule n at end a b v) where
-    label_now : (x : ℕ) → x < n → plane n 1 a x ≡ plane n 1 a₀ x
-    label_now x l = same 1 x (omega arith) l
-
-    -- the numbers of other groups, in groups that are in use
-    other : (x : ℕ) → x < n → 0 < plane n 1 a₀ x → (plane n 1 a₀ x - 1 ≡ at → ⊥) → plane n 1 a₀ x - 1 < n → plane n 6 b (plane n 1 a₀ x - 1) ≡ plane n 6 a (plane n 1 a₀ x - 1)
-    other x l h z k = w.numbers (plane n 1 a₀ x - 1) k z
-
-    -- nothing is written
-    module _ (in_use : (x : ℕ) → x < n → 0 < plane n 1 a₀ x → plane n 1 a₀ x - 1 < n) where
-      pub judging_noted : Judging rule s₀ (plane n 1 a₀) (plane n 6 a₀) (plane n 6 b) (frozen_of n b)
-      unfolding frozen_of
-      judging_noted = record { each = each'; frozen = frozen' }
-        where
-          below : (x : ℕ) → x < rule.places → x < n
-          below x l = rw (← is-n) l
-
-          each' : (x : ℕ) → x < rule.places → 0 < plane n 1 a₀ x → (plane n 6 b (plane n 1 a₀ x - 1) ≡ plane n 6 a₀ (plane n 1 a₀ x - 1)) ⊎ ((plane n 6 a₀ (plane n 1 a₀ x - 1) ≡ 0) × (plane n 6 b (plane n 1 a₀ x - 1) ≡ fate_number (fate (fates rule s₀) x)))
-          each' x l h =
-              elim (ℕ_discrete (plane n 1 a₀ x - 1) at) [
-                | no z ↦ (let e = other x (below x l) h z (in_use x (below x l) h) in ⊎_elim (λ i. inl (e ∙ i)) (λ i. inr (i.0, e ∙ i.1)) (u.each x l h))
-                | yes k ↦ (elim (ℕ_discrete (plane n 6 a at) 0) [
-                  | no z ↦ (let e : plane n 6 b (plane n 1 a₀ x - 1) ≡ plane n 6 a (plane n 1 a₀ x - 1) = ap (plane n 6 b) k ∙ w.done z ∙ ap (plane n 6 a) (sym k) in
-                      ⊎_elim (λ i. inl (e ∙ i)) (λ i. inr (i.0, e ∙ i.1)) (u.each x l h))
-                  | yes z ↦ (let gx : plane n 1 a₀ x ≡ suc at = omega arith in
-                      inr (
-                        ap (plane n 6 a₀) k ∙ free_was x at (below x l) gx z,
-                        ap (plane n 6 b) k ∙ w.right z x (below x l) (label_now x (below x l) ∙ gx) ∙ ap fate_number (fate-same x at (below x l) gx z),
-                      ))
-                ])
-              ]
-
-          frozen' : (x : ℕ) → x < rule.places → 0 < plane n 1 a₀ x → not (eqb (plane n 4 b x) 0) ≡ (marked s₀.frozen x || (eqb (plane n 6 a₀ (plane n 1 a₀ x - 1)) 0 && eqb (plane n 6 b (plane n 1 a₀ x - 1)) 1))
-          frozen' x l h =
-              elim (ℕ_discrete (plane n 1 a₀ x - 1) at) [
-                | no z ↦ (let e = other x (below x l) h z (in_use x (below x l) h) in
-                    let i = w.thawed x (below x l) (inl (λ g. z (let g' : plane n 1 a₀ x ≡ suc at = sym (label_now x (below x l)) ∙ g in omega arith))) in
-                    ap (λ (c : ℕ). not (eqb c 0)) i ∙ u.frozen x l h ∙ ap (λ (c : ℕ). marked s₀.frozen x || (eqb (plane n 6 a₀ (plane n 1 a₀ x - 1)) 0 && eqb c 1)) (sym e))
-                | yes k ↦ (let gx : plane n 1 a₀ x ≡ suc at = omega arith in
-                    let ga : plane n 1 a x ≡ suc at = label_now x (below x l) ∙ gx in
-                    elim (ℕ_discrete (plane n 6 a at) 0) [
-                      | no z ↦ (let e : plane n 6 b (plane n 1 a₀ x - 1) ≡ plane n 6 a (plane n 1 a₀ x - 1) = ap (plane n 6 b) k ∙ w.done z ∙ ap (plane n 6 a) (sym k) in
-                          let i = w.thawed x (below x l) (inr (inl z)) in
-                          ap (λ (c : ℕ). not (eqb c 0)) i ∙ u.frozen x l h ∙ ap (λ (c : ℕ). marked s₀.frozen x || (eqb (plane n 6 a₀ (plane n 1 a₀ x - 1)) 0 && eqb c 1)) (sym e))
-                      | yes z ↦ (let f = free_was x at (below x l) gx z in
-                          let th = thaw x at (below x l) gx f in
-                          let f' : plane n 6 a₀ (plane n 1 a₀ x - 1) ≡ 0 = ap (plane n 6 a₀) k ∙ f in
-                          let nb : plane n 6 b (plane n 1 a₀ x - 1) ≡ plane n 6 b at = ap (plane n 6 b) k in
-                          elim (ℕ_discrete (plane n 6 b at) 1) [
-                            | yes o ↦ (let i = w.frozen z o x (below x l) ga in rw (i, th, f', nb, o))
-                            | no o ↦ (let i = w.thawed x (below x l) (inr (inr o)) in
-                                let na : plane n 6 a (plane n 1 a₀ x - 1) ≡ 0 = ap (plane n 6 a) k ∙ z in
-                                let old : not (eqb (plane n 4 a x) 0) ≡ false = u.frozen x l h ∙ rw (th, f', na) in
-                                ap (λ (c : ℕ). not (eqb c 0)) i ∙ old ∙ rw (th, f', nb, ne_eqb (plane n 6 b at) 1 o))
-                          ])
-                    ])
-              ]
 
 -- ---- group after group
 
@@ -177,14 +78,102 @@ module _ {rule : Rule} {grid : Grid} {k from : ℕ} {a : List ℕ} (st : Stage r
   abbrev n : ℕ
   n = area_of grid
 
-  abbrev e : rule.places ≡ n
-  e = st.ruled.size
-
   abbrev symm : Symmetric rule.adj
   symm = st.ruled.symm
 
   thaw_at : (x at : ℕ) → x < n → plane n 1 a x ≡ suc at → plane n 6 a at ≡ 0 → marked (state_of n a).frozen x ≡ false
   thaw_at x at l y z = case (marked (state_of n a).frozen x) (λ q. absurd (st.sound.thawed x at l y z q)) (λ q. q)
+
+  -- some groups are judged by now
+  module _ (now : List ℕ) (same : (j q : ℕ) → j < 4 → q < n → plane n j now q ≡ plane n j a q)
+      (u : Judging rule (state_of n a) (plane n 1 a) (plane n 6 a) (plane n 6 now) (frozen_of n now)) where
+    abbrev s₀ : State
+    s₀ = state_of n a
+
+    same_state : state_of n now ≡ with_frozen s₀ (state_of n now).frozen
+    unfolding state_of with_frozen
+    same_state = λ i. record { cells = cells_kept n now a (λ p l. same 0 p (omega arith) l) i; frozen = (state_of n now).frozen }
+
+    -- a group without a number had none
+    free_was : (x at : ℕ) → x < n → plane n 1 a x ≡ suc at → plane n 6 now at ≡ 0 → plane n 6 a at ≡ 0
+    free_was x at l e z =
+        let k : plane n 1 a x - 1 ≡ at = omega arith in
+        ⊎_elim (λ i. sym (ap (plane n 6 a) k) ∙ sym i ∙ ap (plane n 6 now) k ∙ z) (λ i. sym (ap (plane n 6 a) k) ∙ i.0) (u.each x (in_rule st x l) (omega arith))
+
+    -- and its fate is that of the pass's start
+    pub fate-same : (x at : ℕ) → x < n → plane n 1 a x ≡ suc at → plane n 6 now at ≡ 0 → fate (fates rule (state_of n now)) x ≡ fate (fates rule s₀) x
+    unfolding with_frozen frozen_of
+    fate-same x at l e z =
+        ap (λ (t : State). fate (fates rule t) x) same_state ∙ sym (⊎_elim little big_one (small_or_large rule symm s₀.cells (stage_ready st).grouped.size x o))
+      where
+        o : opaque s₀.cells x ≡ true
+        o = ((stage_ready st).grouped.shown x (in_rule st x l)).1 (omega arith)
+
+        big_one : large rule s₀.cells x ≡ true → fate (fates rule s₀) x ≡ fate (fates rule (with_frozen s₀ (state_of n now).frozen)) x
+        big_one y = fate-large rule symm s₀ (stage_ready st).grouped.size x (in_rule st x l) y ∙ sym (fate-large rule symm (with_frozen s₀ (state_of n now).frozen) (stage_ready st).grouped.size x (in_rule st x l) y)
+
+        little : small rule s₀.cells x ≡ true → fate (fates rule s₀) x ≡ fate (fates rule (with_frozen s₀ (state_of n now).frozen)) x
+        little y = fate_local rule symm s₀ (stage_ready st).grouped.size (state_of n now).frozen x o (λ p j.
+            let b : p < rule.places = opaque-below rule.places rule.adj s₀.cells (stage_ready st).grouped.size p (join_right rule.adj s₀.cells j) in
+            let g : plane n 1 a x ≡ plane n 1 a p = ((stage_ready st).grouped.region x p y b).0 j in
+            let k : plane n 1 a p - 1 ≡ at = omega arith in
+            let z' : plane n 6 now (plane n 1 a p - 1) ≡ 0 = ap (plane n 6 now) k ∙ z in
+            frozen_is n now p (of_rule st p b) ∙ u.frozen p b (omega arith) ∙ rw z' (unfrozen (marked s₀.frozen p) (eqb (plane n 6 a (plane n 1 a p - 1)) 0)))
+
+    module _ (at end : ℕ) (b : List ℕ) (v : ℕ) (w : Noted rule n at end now b v) where
+      label_now : (x : ℕ) → x < n → plane n 1 now x ≡ plane n 1 a x
+      label_now x l = same 1 x (omega arith) l
+
+      -- the numbers of other groups, in groups that are in use
+      other : (x : ℕ) → x < n → 0 < plane n 1 a x → (plane n 1 a x - 1 ≡ at → ⊥) → plane n 1 a x - 1 < n → plane n 6 b (plane n 1 a x - 1) ≡ plane n 6 now (plane n 1 a x - 1)
+      other x l h z k = w.numbers (plane n 1 a x - 1) k z
+
+      -- nothing is written
+      module _ (in_use : (x : ℕ) → x < n → 0 < plane n 1 a x → plane n 1 a x - 1 < n) where
+        pub judging_noted : Judging rule s₀ (plane n 1 a) (plane n 6 a) (plane n 6 b) (frozen_of n b)
+        unfolding frozen_of
+        judging_noted = record { each = each'; frozen = frozen' }
+          where
+            each' : (x : ℕ) → x < rule.places → 0 < plane n 1 a x → (plane n 6 b (plane n 1 a x - 1) ≡ plane n 6 a (plane n 1 a x - 1)) ⊎ ((plane n 6 a (plane n 1 a x - 1) ≡ 0) × (plane n 6 b (plane n 1 a x - 1) ≡ fate_number (fate (fates rule s₀) x)))
+            each' x l h =
+                elim (ℕ_discrete (plane n 1 a x - 1) at) [
+                  | no z ↦ (let e = other x (of_rule st x l) h z (in_use x (of_rule st x l) h) in ⊎_elim (λ i. inl (e ∙ i)) (λ i. inr (i.0, e ∙ i.1)) (u.each x l h))
+                  | yes k ↦ (elim (ℕ_discrete (plane n 6 now at) 0) [
+                    | no z ↦ (let e : plane n 6 b (plane n 1 a x - 1) ≡ plane n 6 now (plane n 1 a x - 1) = ap (plane n 6 b) k ∙ w.done z ∙ ap (plane n 6 now) (sym k) in
+                        ⊎_elim (λ i. inl (e ∙ i)) (λ i. inr (i.0, e ∙ i.1)) (u.each x l h))
+                    | yes z ↦ (let gx : plane n 1 a x ≡ suc at = omega arith in
+                        inr (
+                          ap (plane n 6 a) k ∙ free_was x at (of_rule st x l) gx z,
+                          ap (plane n 6 b) k ∙ w.right z x (of_rule st x l) (label_now x (of_rule st x l) ∙ gx) ∙ ap fate_number (fate-same x at (of_rule st x l) gx z),
+                        ))
+                  ])
+                ]
+
+            frozen' : (x : ℕ) → x < rule.places → 0 < plane n 1 a x → not (eqb (plane n 4 b x) 0) ≡ (marked s₀.frozen x || (eqb (plane n 6 a (plane n 1 a x - 1)) 0 && eqb (plane n 6 b (plane n 1 a x - 1)) 1))
+            frozen' x l h =
+                elim (ℕ_discrete (plane n 1 a x - 1) at) [
+                  | no z ↦ (let e = other x (of_rule st x l) h z (in_use x (of_rule st x l) h) in
+                      let i = w.thawed x (of_rule st x l) (inl (λ g. z (let g' : plane n 1 a x ≡ suc at = sym (label_now x (of_rule st x l)) ∙ g in omega arith))) in
+                      ap (λ (c : ℕ). not (eqb c 0)) i ∙ u.frozen x l h ∙ ap (λ (c : ℕ). marked s₀.frozen x || (eqb (plane n 6 a (plane n 1 a x - 1)) 0 && eqb c 1)) (sym e))
+                  | yes k ↦ (let gx : plane n 1 a x ≡ suc at = omega arith in
+                      let ga : plane n 1 now x ≡ suc at = label_now x (of_rule st x l) ∙ gx in
+                      elim (ℕ_discrete (plane n 6 now at) 0) [
+                        | no z ↦ (let e : plane n 6 b (plane n 1 a x - 1) ≡ plane n 6 now (plane n 1 a x - 1) = ap (plane n 6 b) k ∙ w.done z ∙ ap (plane n 6 now) (sym k) in
+                            let i = w.thawed x (of_rule st x l) (inr (inl z)) in
+                            ap (λ (c : ℕ). not (eqb c 0)) i ∙ u.frozen x l h ∙ ap (λ (c : ℕ). marked s₀.frozen x || (eqb (plane n 6 a (plane n 1 a x - 1)) 0 && eqb c 1)) (sym e))
+                        | yes z ↦ (let f = free_was x at (of_rule st x l) gx z in
+                            let th = thaw_at x at (of_rule st x l) gx f in
+                            let f' : plane n 6 a (plane n 1 a x - 1) ≡ 0 = ap (plane n 6 a) k ∙ f in
+                            let nb : plane n 6 b (plane n 1 a x - 1) ≡ plane n 6 b at = ap (plane n 6 b) k in
+                            elim (ℕ_discrete (plane n 6 b at) 1) [
+                              | yes o ↦ (let i = w.frozen z o x (of_rule st x l) ga in rw (i, th, f', nb, o))
+                              | no o ↦ (let i = w.thawed x (of_rule st x l) (inr (inr o)) in
+                                  let na : plane n 6 now (plane n 1 a x - 1) ≡ 0 = ap (plane n 6 now) k ∙ z in
+                                  let old : not (eqb (plane n 4 now x) 0) ≡ false = u.frozen x l h ∙ rw (th, f', na) in
+                                  ap (λ (c : ℕ). not (eqb c 0)) i ∙ old ∙ rw (th, f', nb, ne_eqb (plane n 6 b at) 1 o))
+                            ])
+                      ])
+                ]
 
   -- no group is judged yet
   pub met_start : Met rule grid k (λ l. ⊥) a a from from
@@ -195,7 +184,7 @@ module _ {rule : Rule} {grid : Grid} {k from : ℕ} {a : List ℕ} (st : Stage r
         stage = st;
         same = λ i q l z. refl;
         large = λ q l. refl;
-        judging = record { each = λ x l z. inl refl; frozen = λ x l z. sym (frozen_is n a x (rw (← e) l)) ∙ none_more (marked (state_of n a).frozen x) _ (not_both (plane n 6 a (plane n 1 a x - 1))) };
+        judging = record { each = λ x l z. inl refl; frozen = λ x l z. sym (frozen_is n a x (of_rule st x l)) ∙ none_more (marked (state_of n a).frozen x) _ (not_both (plane n 6 a (plane n 1 a x - 1))) };
         numbered = λ x at l y z. absurd z;
         log = filed_start n from a;
       }
@@ -208,7 +197,7 @@ module _ {rule : Rule} {grid : Grid} {k from : ℕ} {a : List ℕ} (st : Stage r
       stage = stage_noted u.stage g v;
       same = λ i q l z. v.same i q l z ∙ u.same i q l z;
       large = λ q l. v.large q l ∙ u.large q l;
-      judging = judging_noted rule symm n e a b (large_of n a) (large rule (cells_of n a)) (stage_ready st) thaw_at u.same u.judging at end c r v in_use;
+      judging = judging_noted b u.same u.judging at end c r v in_use;
       numbered = numbered';
       log = filed_trans n from end r a b c (λ q l. u.same 1 q (omega arith) l) was stays u.log
           (filed_noted rule n at end b c r v (λ x l b e. (u.stage.sheet.groups x l b e).label) lead lead-at.0 lead-at.1);
@@ -224,7 +213,7 @@ module _ {rule : Rule} {grid : Grid} {k from : ℕ} {a : List ℕ} (st : Stage r
         in_use x l z = (u.stage.sheet.groups x (plane n 1 a x - 1) l (u.same 1 x (omega arith) l ∙ omega arith)).label
 
         was : (x t : ℕ) → x < n → plane n 1 a x ≡ suc t → plane n 6 b t ≡ 0 → plane n 6 a t ≡ 0
-        was x t l y z = free_was rule symm n e a b (large_of n a) (large rule (cells_of n a)) (stage_ready st) thaw_at u.same u.judging x t l y z
+        was x t l y z = free_was b u.same u.judging x t l y z
 
         stays : (x t : ℕ) → x < n → plane n 1 a x ≡ suc t → (plane n 6 b t ≡ 0 → ⊥) → plane n 6 c t ≡ plane n 6 b t
         stays x t l y z =
@@ -241,9 +230,9 @@ module _ {rule : Rule} {grid : Grid} {k from : ℕ} {a : List ℕ} (st : Stage r
                 | yes o ↦ (let o' : plane n 6 b at ≡ 0 = rw i at o in
                     let y' : plane n 1 a x ≡ suc at = rw i at y in
                     ap (plane n 6 c) i ∙ v.right o' x l (u.same 1 x (omega arith) l ∙ y')
-                    ∙ ap fate_number (fate-same rule symm n e a b (large_of n a) (large rule (cells_of n a)) (stage_ready st) thaw_at u.same u.judging x at l y' o'))
+                    ∙ ap fate_number (fate-same b u.same u.judging x at l y' o'))
                 | no o ↦ (let done : plane n 6 c t ≡ plane n 6 b t = ap (plane n 6 c) i ∙ v.done (λ q. o (ap (plane n 6 b) i ∙ q)) ∙ ap (plane n 6 b) (sym i) in
-                    ⊎_elim (λ q. absurd (o (sym (ap (plane n 6 b) k1) ∙ q ∙ ap (plane n 6 a) k1 ∙ f))) (λ q. done ∙ sym (ap (plane n 6 b) k1) ∙ q.1) (u.judging.each x (rw e l) (omega arith)))
+                    ⊎_elim (λ q. absurd (o (sym (ap (plane n 6 b) k1) ∙ q ∙ ap (plane n 6 a) k1 ∙ f))) (λ q. done ∙ sym (ap (plane n 6 b) k1) ∙ q.1) (u.judging.each x (in_rule st x l) (omega arith)))
               ])
             ]
 
@@ -262,13 +251,13 @@ module _ {rule : Rule} {grid : Grid} {k from : ℕ} {a : List ℕ} (st : Stage r
     mid_free : (x : ℕ) → x < n → 0 < plane n 1 a x → num b x ≡ 0 → (num a x ≡ 0) × (fate (fates rule (state_of n b)) x ≡ fate (fates rule sa) x)
     mid_free x l z o =
         let y : plane n 1 a x ≡ suc (plane n 1 a x - 1) = omega arith in (
-          free_was rule symm n e a b (large_of n a) (large rule (cells_of n a)) (stage_ready st) thaw_at u.same u.judging x (plane n 1 a x - 1) l y o,
-          fate-same rule symm n e a b (large_of n a) (large rule (cells_of n a)) (stage_ready st) thaw_at u.same u.judging x (plane n 1 a x - 1) l y o,
+          free_was b u.same u.judging x (plane n 1 a x - 1) l y o,
+          fate-same b u.same u.judging x (plane n 1 a x - 1) l y o,
         )
 
     -- the second judging, by the labels of a
     each_then : (x : ℕ) → x < n → 0 < plane n 1 a x → (num c x ≡ num b x) ⊎ ((num b x ≡ 0) × (num c x ≡ fate_number (fate (fates rule (state_of n b)) x)))
-    each_then x l z = let i = label_mid x l in rw i at (v.judging.each x (rw e l) (rw i z))
+    each_then x l z = let i = label_mid x l in rw i at (v.judging.each x (in_rule st x l) (rw i z))
 
     pub met_trans : Met rule grid k (λ l. first l ⊎ second l) a c from end
     unfolding frozen_of
@@ -277,7 +266,7 @@ module _ {rule : Rule} {grid : Grid} {k from : ℕ} {a : List ℕ} (st : Stage r
       stage = v.stage;
       same = λ i q l z. v.same i q l z ∙ u.same i q l z;
       large = λ q l. v.large q l ∙ u.large q l;
-      judging = record { each = λ x l z. each' x (rw (← e) l) z; frozen = λ x l z. frozen' x (rw (← e) l) z };
+      judging = record { each = λ x l z. each' x (of_rule st x l) z; frozen = λ x l z. frozen' x (of_rule st x l) z };
       numbered = numbered';
       log = filed_trans n from mid end a b c label_mid was stays u.log v.log;
     }
@@ -285,15 +274,15 @@ module _ {rule : Rule} {grid : Grid} {k from : ℕ} {a : List ℕ} (st : Stage r
         each' : (x : ℕ) → x < n → 0 < plane n 1 a x → (num c x ≡ num a x) ⊎ ((num a x ≡ 0) × (num c x ≡ fate_number (fate (fates rule sa) x)))
         each' x l z =
             ⊎_elim
-            (λ i. ⊎_elim (λ j. inl (i ∙ j)) (λ j. inr (j.0, i ∙ j.1)) (u.judging.each x (rw e l) z))
+            (λ i. ⊎_elim (λ j. inl (i ∙ j)) (λ j. inr (j.0, i ∙ j.1)) (u.judging.each x (in_rule st x l) z))
             (λ i. let f = mid_free x l z i.0 in inr (f.0, i.1 ∙ ap fate_number f.1))
             (each_then x l z)
 
         frozen' : (x : ℕ) → x < n → 0 < plane n 1 a x → frozen_of n c x ≡ (marked sa.frozen x || (eqb (num a x) 0 && eqb (num c x) 1))
         frozen' x l z =
             let i = label_mid x l in
-            let fc : frozen_of n c x ≡ (marked (state_of n b).frozen x || (eqb (num b x) 0 && eqb (num c x) 1)) = rw i at (v.judging.frozen x (rw e l) (rw i z)) in
-            let fb : marked (state_of n b).frozen x ≡ (marked sa.frozen x || (eqb (num a x) 0 && eqb (num b x) 1)) = frozen_is n b x l ∙ u.judging.frozen x (rw e l) z in
+            let fc : frozen_of n c x ≡ (marked (state_of n b).frozen x || (eqb (num b x) 0 && eqb (num c x) 1)) = rw i at (v.judging.frozen x (in_rule st x l) (rw i z)) in
+            let fb : marked (state_of n b).frozen x ≡ (marked sa.frozen x || (eqb (num a x) 0 && eqb (num b x) 1)) = frozen_is n b x l ∙ u.judging.frozen x (in_rule st x l) z in
             elim (ℕ_discrete (num b x) 0) [
               | yes o ↦ (let na = (mid_free x l z o).0 in fc ∙ rw (fb, o, na) (join_none (marked sa.frozen x) (eqb (num c x) 1)))
               | no o ↦ (let j : num c x ≡ num b x = ⊎_elim (λ q. q) (λ q. absurd (o q.0)) (each_then x l z) in
@@ -325,7 +314,7 @@ module _ {rule : Rule} {grid : Grid} {k from : ℕ} {a : List ℕ} (st : Stage r
                   (λ i. v.numbered x t l (label_mid x l ∙ y) i (sym nb ∙ o) ∙ ap fate_number (mid_free x l some o).1)
                   z
               | no o ↦ (let j : num c x ≡ num b x = ⊎_elim (λ q. q) (λ q. absurd (o q.0)) (each_then x l some) in
-                  ⊎_elim (λ q. absurd (o (q ∙ na))) (λ q. sym nc ∙ j ∙ q.1) (u.judging.each x (rw e l) some))
+                  ⊎_elim (λ q. absurd (o (q ∙ na))) (λ q. sym nc ∙ j ∙ q.1) (u.judging.each x (in_rule st x l) some))
             ]
 
   -- ---- the small groups that are named
