@@ -1,3 +1,2 @@
 pub mod Chaining
 pub mod Scanning
-pub mod Signs
