@@ -9,9 +9,6 @@ pub record Placed (all old rest now : List ℕ) (count : ℕ) : Type 0 where
   pub size : min (length all) (length old) ≡ count + min (length rest) (length now - count)
   pub within : count ≤ length now
 
-pub none_placed : (all old : List ℕ) → Placed all old all old 0
-none_placed all old = record { list = refl; size = omega arith; within = omega arith }
-
 -- a number stands at the front of what is over a list that has room for it
 over_within_more : (n : ℕ) (rest l : List ℕ) (i : ℕ) → i < length l → over_within (n ∷ rest) (drop i l) ≡ n ∷ over_within rest (drop (i + 1) l)
 unfolding over_within

@@ -69,9 +69,6 @@ pub record Valued (ds : List ℕ) (v i : ℕ) : Type 0 where
   pub small : v < 10 ^ i
   pub whole : value v (drop i ds) ≡ value 0 ds
 
-pub valued_none : (ds : List ℕ) → Valued ds 0 0
-valued_none ds = record { small = omega arith; whole = refl }
-
 module _ {ds : List ℕ} {v i : ℕ} (d : Decimal ds) (s : Valued ds v i) (h : i < length ds) where
   pub valued_fits : (48 ≤ get_or ds i 0) × (get_or ds i 0 ≤ 57) × (v * 10 + (get_or ds i 0 - 48) < 10 ^ 9)
   valued_fits =
