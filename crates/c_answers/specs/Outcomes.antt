@@ -1,11 +1,12 @@
 -- What C gets of an entry: a number, and numbers over the front of a lent list. Definitions only. Assumes nothing.
-use Rattle.std.specs.Prelude.{ℕ, ◌+◌, cond, List, [], ◌∷◌, ◌++◌, length, drop, Option, None, Some, Result, Ok, Err}
+use Rattle.std.specs.Prelude.{ℕ, ◌+◌, cond, List, [], ◌∷◌, ◌++◌, Option, None, Some, Result, Ok, Err}
 use Rattle.base.specs.declared.Refusal.{Refusal}
 use Rattle.base.specs.Numbers.{number}
 use Rattle.base.specs.Refusals.{refusal, unless}
 use Rattle.color.specs.declared.Rgb8.{Rgb8}
 use Rattle.rules.specs.declared.Facts.{Facts}
 use Rattle.rules.specs.declared.Processed.{Processed}
+use Rattle.rules.specs.Sheet.{over}
 use Rattle.rules.specs.Rows.{too_large, too_short}
 
 -- the number that a call returns: 0 if it is accepted, or the refusal's
@@ -15,7 +16,7 @@ status (Err e) = number e
 
 -- the list that a call hands the numbers of its answer out in: they stand at its front; a refusal leaves it
 abbrev pub received : {A : Type 0} → (A → List ℕ) → Result A Refusal → List ℕ → List ℕ
-received numbers (Ok x) lent = numbers x ++ drop (length (numbers x)) lent
+received numbers (Ok x) lent = over (numbers x) lent
 received numbers (Err e) lent = lent
 
 -- what a call on h rows of w cells comes to, with room for `have` facts of `need`: if row 1 or 2 applies f of its refusal, else x

@@ -60,6 +60,7 @@ fn one_fact(n: u32) -> [u32; 1]
 }
 
 // The fact of an entry that counts.
+#[tactic(auto, unfolding(rules::specs::Sheet::over))]
 pub fn tell_count(answer: Result<u32, Refusal>, facts: &mut [u32]) -> u32
     requires { 1 ≤ length facts.old }
     ensures value { result ≡ status answer }
@@ -103,6 +104,7 @@ fn run_facts(p: Processed) -> [u32; 7]
 }
 
 // The facts of a sheet that was outlined.
+#[tactic(auto, unfolding(rules::specs::Sheet::over))]
 pub fn tell_outline(answer: Result<Facts, Refusal>, facts: &mut [u32]) -> u32
     requires facts_fit { IfOk answer FactsFit }
     requires in_bounds { 5 ≤ length facts.old }
@@ -113,6 +115,7 @@ pub fn tell_outline(answer: Result<Facts, Refusal>, facts: &mut [u32]) -> u32
 }
 
 // The facts of a sheet that was run, and the passes of both cleanings.
+#[tactic(auto, unfolding(rules::specs::Sheet::over))]
 pub fn tell_run(answer: Result<Processed, Refusal>, facts: &mut [u32]) -> u32
     requires facts_fit { IfOk answer (λ p. FactsFit p.facts) }
     requires in_bounds { 7 ≤ length facts.old }
@@ -130,6 +133,7 @@ fn three_bytes(c: Rgb8) -> [u8; 3]
 }
 
 // The three bytes of a colour.
+#[tactic(auto, unfolding(rules::specs::Sheet::over))]
 pub fn tell_colour(answer: Result<Rgb8, Refusal>, out: &mut [u8]) -> u32
     requires { 3 ≤ length out.old }
     ensures value { result ≡ status answer }
