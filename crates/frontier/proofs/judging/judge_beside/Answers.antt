@@ -16,7 +16,7 @@ loop-s-preserved c =
     let s = c.loop-s.s in
     let walk = walk_turn {grid = grid} {s = s} c.requires.p_bound c.on_edge-border.ensures (omega arith) in
     let more : (q : ℕ) → q < area_of grid → Reached grid p (s + 1) q → Reached grid p s q ⊎ (landing grid (step_at p s c.on_edge-border.result) ≡ Some q) =
-        (λ q l y. ⊎_elim inl (λ e. inr (walk.lands ∙ e)) (reached_more grid p s y)) in
+    (λ q l y. ⊎_elim inl (λ e. inr (walk.lands ∙ e)) (reached_more grid p s y)) in
     let u = c.loop-s.invariant.met in
     record {
       met = elim c.match-small_found.branch [
