@@ -5,7 +5,7 @@
 # make compare      the library beside the Rust original in SHARED, CASES random calls of each entry and more
 # make bench        times of both
 # make model        the Python model against the stored answers, the texts of silk and wrong rules
-# make documents    whether what the documents name is there, whether each must-fail edit fits its file, and whether two crates define one name
+# make documents    whether what the documents name is there, whether each must-fail edit fits its file, whether two crates define one name, and whether README's law is whole
 # make definitions  the definitions of rules against the model on ROWS random calls, computed by the checker
 .PHONY: test run lib example compare bench compared model documents definitions
 CFLAGS = -std=c11 -Wall -Wextra -Wpedantic -Werror

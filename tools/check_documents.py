@@ -6,6 +6,7 @@
 - README.md: the table of crates has each crate of crates.txt, below those that it stands on, and no other.
 - every link from one document to a file.
 - crates/*/specs: no name is defined in two crates, fields and constructors aside, so that one name is one thing.
+- README.md: what the files of its law import stands in files of the law, and the files outside it are counted right.
 
 Prints what is wrong, and how many of each there are.
 """
@@ -167,6 +168,25 @@ def definitions():
     return len(homes), [f"{name} is defined in {' and '.join(homes[name])}" for name in homes if len(crates_of[name]) > 1]
 
 
+def law():
+    readme = text(os.path.join(ROOT, "README.md"))
+    table = re.search(r"\| what \| where \|\n\|[-|]*\n((?:\|.*\n)*)", readme)[1]
+    listed = {
+        os.path.join(crate, "specs", name + ".antt")
+        for crate, names in re.findall(r"([a-z_]+): ([^;|]*)", "".join(line.split("|")[2] + ";" for line in table.split("\n")[:-1]))
+        for name in re.findall(r"\b[A-Z]\w*", names)
+    }
+    every = {os.path.relpath(path, CRATES) for path in glob.glob(os.path.join(CRATES, "*", "specs", "*.antt")) if not path.endswith("Lib.antt")}
+    faults = [f"README.md has {path} in its law, and there is no such file" for path in sorted(listed - every)]
+    for path in sorted(listed & every):
+        for crate, folder, name in re.findall(r"^use Rattle\.(\w+)\.(specs|proofs)\.(\w+)", text(os.path.join(CRATES, path)), re.M):
+            if crate != "std" and name != "declared" and os.path.join(crate, folder, name + ".antt") not in listed:
+                faults.append(f"{path} imports {crate}/{folder}/{name}.antt, which the law of README.md has not")
+    if f" {len(every - listed)} of {len(every)} " not in readme:
+        faults.append(f"README.md does not say that {len(every - listed)} of {len(every)} files under specs/ are outside its law")
+    return len(listed), faults
+
+
 def main():
     failed = False
     looks = {
@@ -175,6 +195,7 @@ def main():
         "crates in README.md": crates,
         "links": links,
         "names of definitions": definitions,
+        "files of README.md's law": law,
     }
     for what, look in looks.items():
         number, faults = look()
