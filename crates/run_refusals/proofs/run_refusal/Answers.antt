@@ -1,19 +1,17 @@
 -- Rows 1 to 3, rows 4 to 6, and the two that read the cells. Assumes nothing.
-use Prim.Native.Nat.{ℕ, ◌≤◌}
+use Prim.Native.Nat.{◌≤◌}
 use mathlib.Core.Path.{◌≡◌, refl, sym, ap, ◌∙◌}
 use mathlib.Core.Bool.{Bool, true, false, ◌&&◌, ◌||◌}
 use mathlib.Core.List.{List, [], ◌∷◌}
 use Rattle.std.specs.Prelude.{None, Some, Result, Ok, Err}
 use Rattle.std.proofs.Common.{rules}
-use lib.IntN.{ℤ}
 use lib.ListN.{length}
-use lib.Ieee.{Float}
 use Rattle.base.specs.declared.Refusal.{Refusal}
 use Rattle.base.specs.declared.Refusal.TheVariants.{NoSuchEntry, NoEntries}
 use Rattle.base.specs.Refusals.{Row, refusal, answered}
 use Rattle.base.proofs.Refusing.{row_hit, row-pass, row_last, rows_hit, rows_pass, some_answered, none_answered, answered_some, answered_none}
 use Rattle.rules.specs.declared.Drawing.{Drawing}
-use Rattle.rules.specs.Sheet.{lent_sheet, sheet_in, needed}
+use Rattle.rules.specs.Sheet.{sheet_in, needed}
 use Rattle.rules.specs.Palette.{palette_of}
 use Rattle.rules.specs.Outline.{touches, pads, canvas}
 use Rattle.rules.specs.Calls.{RunCall}
@@ -24,7 +22,6 @@ use Rattle.refusals.specs.Room.{SheetFits}
 use Rattle.refusals.proofs.Rows.{sheet_room, palette_room}
 use Rattle.outline.specs.Room.{present}
 use Rattle.outline.proofs.Refusing.{padded_rows, padded-is, seated, pad_touches}
-use Rattle.run_refusals.specs.declared.Options.{Options}
 use Rattle.run_refusals.proofs.Refusing.{padding}
 use Rattle.run_refusals.proofs.run_refusal.Goals as goal
 
@@ -51,14 +48,8 @@ module _ (k : RunCall) {how : Drawing} (drawn : how ≡ record { outline = k.con
       sheet_passes : refusal (lent_rows k.lent (padding k)) ≡ None
       sheet_passes = sym (padded_rows (drawing_of k) k.lent.cells k.lent.height k.lent.width k.lent.work as_padded) ∙ answered_none (tt {0}) first refl
 
-      room : SheetFits k.lent.height k.lent.width (needed k.lent.height k.lent.width (padding k)) (length k.lent.cells) k.lent.work
-      room = (sheet_room _ sheet_passes).0
-
       padding-is : padded ≡ padding k
       padding-is = padded-is (drawing_of k) k.lent.cells k.lent.height k.lent.width k.lent.work as_padded sheet_passes
-
-      touched : padded ≡ true → touches (sheet_in k.lent) ≡ true
-      touched y = pad_touches (drawing_of k) (sheet_in k.lent) (sym padding-is ∙ y)
 
       -- ---- rows 4 to 6
       abbrev Settings : List Row
@@ -74,6 +65,12 @@ module _ (k : RunCall) {how : Drawing} (drawn : how ≡ record { outline = k.con
 
         few : k.palette.count ≤ 256
         few = (palette_room _ settings_pass).0.few
+
+        room : SheetFits k.lent.height k.lent.width (needed k.lent.height k.lent.width (padding k)) (length k.lent.cells) k.lent.work
+        room = (sheet_room _ sheet_passes).0
+
+        touched : padded ≡ true → touches (sheet_in k.lent) ≡ true
+        touched y = pad_touches (drawing_of k) (sheet_in k.lent) (sym padding-is ∙ y)
 
         -- ---- rows 7 and 8
         abbrev seventh : Row
@@ -118,28 +115,13 @@ returns-in_err-settings_refusal c =
     let r : c.from_residual-in_err-settings_refusal.result ≡ Err c.in_err-settings_refusal.field-0.0 = search rules in
     r ∙ some_answered _ (by_settings _ c.drawing-how.ensures c.padding-padded.ensures c.in_ok-sheet_refusal.ensures c.in_err-settings_refusal.ensures)
 
-abbrev called : List ℤ → ℕ → ℕ → List Float → ℕ → Options → ℕ → RunCall
-called cells h w lab k o work =
-    record {
-      lent = lent_sheet cells h w work;
-      palette = palette_of lab k;
-      config = o.config;
-      saturated = o.saturated;
-      fixed = o.fixed_palette;
-      margin = o.outline_margin;
-    }
-
 pub invariant_of-on : goal.invariant_of-on
 invariant_of-on c =
-    let a = c.args in
-    let k = called a.cells.now a.h a.w a.palette.now a.k a.o a.work in
-    record { present = seated _ a.cells.now (room k c.drawing-how.ensures c.padding-padded.ensures c.in_ok-sheet_refusal.ensures) }
+    record { present = seated _ c.args.cells.now (room _ c.drawing-how.ensures c.padding-padded.ensures c.in_ok-sheet_refusal.ensures c.in_ok-settings_refusal.ensures) }
 
 pub bad_index_met-requires : goal.bad_index_met-requires
 bad_index_met-requires c =
-    let a = c.args in
-    let k = called a.cells.now a.h a.w a.palette.now a.k a.o a.work in
-    few k c.drawing-how.ensures c.padding-padded.ensures c.in_ok-sheet_refusal.ensures c.in_ok-settings_refusal.ensures
+    few _ c.drawing-how.ensures c.padding-padded.ensures c.in_ok-sheet_refusal.ensures c.in_ok-settings_refusal.ensures
 
 pub returns-then-bad_index_met : goal.returns-then-bad_index_met
 unfolding bad_index
@@ -149,9 +131,7 @@ returns-then-bad_index_met c =
 
 pub no_entry-requires : goal.no_entry-requires
 no_entry-requires c =
-    let a = c.args in
-    let k = called a.cells.now a.h a.w a.palette.now a.k a.o a.work in
-    touched k c.drawing-how.ensures c.padding-padded.ensures c.in_ok-sheet_refusal.ensures
+    touched _ c.drawing-how.ensures c.padding-padded.ensures c.in_ok-sheet_refusal.ensures c.in_ok-settings_refusal.ensures
 
 pub returns-then-no_entry : goal.returns-then-no_entry
 unfolding bad_index
