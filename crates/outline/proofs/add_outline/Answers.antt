@@ -9,7 +9,7 @@ use Rattle.base.specs.declared.Refusal.{Refusal}
 use Rattle.base.specs.declared.Refusal.TheVariants.{NoEntries}
 use Rattle.base.specs.Refusals.{Row, refusal, answered}
 use Rattle.base.proofs.Refusing.{row_hit, row_last, rows_hit, rows_pass, answered_some, answered_none}
-use Rattle.rules.specs.Sheet.{Sheet, sheet_in, needed}
+use Rattle.rules.specs.Sheet.{Sheet, lent_sheet, sheet_in, needed}
 use Rattle.rules.specs.Palette.{palette_of}
 use Rattle.rules.specs.Outline.{touches, pads, canvas}
 use Rattle.rules.specs.Rows.{sheet_rows, palette_rows, no_entry}
@@ -20,6 +20,7 @@ use Rattle.refusals.proofs.Rows.{sheet_room, palette_room}
 use Rattle.outline.specs.Room.{present}
 use Rattle.outline.proofs.Refusing.{padded_rows, padded-is, seated, pad_touches}
 use Rattle.outline.proofs.Drawn.{met_refused, met_drawn}
+use Rattle.outline.proofs.add_outline.Goals.{In_ok-palette_refusal}
 use Rattle.outline.proofs.add_outline.Goals as goal
 
 module _ (call : OutlineCall) where
@@ -102,17 +103,29 @@ returns c =
     (accepted _ c.padding-padding.ensures c.in_ok-sheet_refusal.ensures c.bad_outline.ensures c.in_ok-palette_refusal.ensures c.no_entry.ensures c.if-no_entry.false)
     c.outline_sheet.ensures
 
+-- the call that the arguments make
+abbrev called : In_ok-palette_refusal → OutlineCall
+called c =
+    let a = c.args in
+    record {
+      lent = lent_sheet a.cells.now a.h a.w (length a.work.now);
+      palette = palette_of a.palette.now a.k;
+      how = record { outline = a.outline; allow_pad = a.allow_pad; fixed_palette = a.fixed_palette };
+    }
+
 pub invariant_of-on : goal.invariant_of-on
 invariant_of-on c =
-    record { present = seated _ c.args.cells.now (room _ c.padding-padding.ensures c.in_ok-sheet_refusal.ensures c.bad_outline.ensures c.in_ok-palette_refusal.ensures) }
+    record { present = seated _ c.args.cells.now (room (called (goal.at.invariant_of-on c).In_ok-palette_refusal) c.padding-padding.ensures c.in_ok-sheet_refusal.ensures c.bad_outline.ensures c.in_ok-palette_refusal.ensures) }
 
 pub no_entry-requires : goal.no_entry-requires
-no_entry-requires c = touched _ c.padding-padding.ensures c.in_ok-sheet_refusal.ensures c.bad_outline.ensures c.in_ok-palette_refusal.ensures
+no_entry-requires c =
+    touched (called (goal.at.no_entry-requires c).In_ok-palette_refusal) c.padding-padding.ensures c.in_ok-sheet_refusal.ensures c.bad_outline.ensures c.in_ok-palette_refusal.ensures
 
 pub outline_sheet-requires : goal.outline_sheet-requires
 outline_sheet-requires c =
-    let u = usable _ c.padding-padding.ensures c.in_ok-sheet_refusal.ensures c.bad_outline.ensures c.in_ok-palette_refusal.ensures in
+    let x = called (goal.at.outline_sheet-requires c).In_ok-palette_refusal in
+    let u = usable x c.padding-padding.ensures c.in_ok-sheet_refusal.ensures c.bad_outline.ensures c.in_ok-palette_refusal.ensures in
     record {
-      room = room _ c.padding-padding.ensures c.in_ok-sheet_refusal.ensures c.bad_outline.ensures c.in_ok-palette_refusal.ensures;
+      room = room x c.padding-padding.ensures c.in_ok-sheet_refusal.ensures c.bad_outline.ensures c.in_ok-palette_refusal.ensures;
       palette_len = (u.whole, u.few);
     }

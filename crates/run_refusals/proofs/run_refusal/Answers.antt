@@ -11,7 +11,7 @@ use Rattle.base.specs.declared.Refusal.TheVariants.{NoSuchEntry, NoEntries}
 use Rattle.base.specs.Refusals.{Row, refusal, answered}
 use Rattle.base.proofs.Refusing.{row_hit, row-pass, row_last, rows_hit, rows_pass, some_answered, none_answered, answered_some, answered_none}
 use Rattle.rules.specs.declared.Drawing.{Drawing}
-use Rattle.rules.specs.Sheet.{sheet_in, needed}
+use Rattle.rules.specs.Sheet.{lent_sheet, sheet_in, needed}
 use Rattle.rules.specs.Palette.{palette_of}
 use Rattle.rules.specs.Outline.{touches, pads, canvas}
 use Rattle.rules.specs.Calls.{RunCall}
@@ -23,6 +23,7 @@ use Rattle.refusals.proofs.Rows.{sheet_room, palette_room}
 use Rattle.outline.specs.Room.{present}
 use Rattle.outline.proofs.Refusing.{padded_rows, padded-is, seated, pad_touches}
 use Rattle.run_refusals.proofs.Refusing.{padding}
+use Rattle.run_refusals.proofs.run_refusal.Goals.{In_ok-settings_refusal}
 use Rattle.run_refusals.proofs.run_refusal.Goals as goal
 
 module _ (k : RunCall) {how : Drawing} (drawn : how ≡ record { outline = k.config.outline; allow_pad = pad_allowed k.config k.margin; fixed_palette = k.fixed }) where
@@ -115,13 +116,26 @@ returns-in_err-settings_refusal c =
     let r : c.from_residual-in_err-settings_refusal.result ≡ Err c.in_err-settings_refusal.field-0.0 = search rules in
     r ∙ some_answered _ (by_settings _ c.drawing-how.ensures c.padding-padded.ensures c.in_ok-sheet_refusal.ensures c.in_err-settings_refusal.ensures)
 
+-- the call that the arguments make
+abbrev called : In_ok-settings_refusal → RunCall
+called c =
+    let a = c.args in
+    record {
+      lent = lent_sheet a.cells.now a.h a.w a.work;
+      palette = palette_of a.palette.now a.k;
+      config = a.o.config;
+      saturated = a.o.saturated;
+      fixed = a.o.fixed_palette;
+      margin = a.o.outline_margin;
+    }
+
 pub invariant_of-on : goal.invariant_of-on
 invariant_of-on c =
-    record { present = seated _ c.args.cells.now (room _ c.drawing-how.ensures c.padding-padded.ensures c.in_ok-sheet_refusal.ensures c.in_ok-settings_refusal.ensures) }
+    record { present = seated _ c.args.cells.now (room (called (goal.at.invariant_of-on c).In_ok-settings_refusal) c.drawing-how.ensures c.padding-padded.ensures c.in_ok-sheet_refusal.ensures c.in_ok-settings_refusal.ensures) }
 
 pub bad_index_met-requires : goal.bad_index_met-requires
 bad_index_met-requires c =
-    few _ c.drawing-how.ensures c.padding-padded.ensures c.in_ok-sheet_refusal.ensures c.in_ok-settings_refusal.ensures
+    few (called (goal.at.bad_index_met-requires c).In_ok-settings_refusal) c.drawing-how.ensures c.padding-padded.ensures c.in_ok-sheet_refusal.ensures c.in_ok-settings_refusal.ensures
 
 pub returns-then-bad_index_met : goal.returns-then-bad_index_met
 unfolding bad_index
@@ -131,7 +145,7 @@ returns-then-bad_index_met c =
 
 pub no_entry-requires : goal.no_entry-requires
 no_entry-requires c =
-    touched _ c.drawing-how.ensures c.padding-padded.ensures c.in_ok-sheet_refusal.ensures c.in_ok-settings_refusal.ensures
+    touched (called (goal.at.no_entry-requires c).In_ok-settings_refusal) c.drawing-how.ensures c.padding-padded.ensures c.in_ok-sheet_refusal.ensures c.in_ok-settings_refusal.ensures
 
 pub returns-then-no_entry : goal.returns-then-no_entry
 unfolding bad_index
