@@ -189,6 +189,16 @@ pub fn label_planes(work: &mut [u32], g: Grid) -> Tally
     t
 }
 
+// The marks go to a lent list one by one: by copy_from_slice the archive for C would ask for memmove from outside.
+fn copy(marks: &[u32], labels: &mut [u32])
+    requires { length marks.now ≡ length labels.old }
+    ensures { labels.new ≡ marks.now }
+{
+    for (p, label) in labels.iter_mut().enumerate() {
+        *label = marks[p];
+    }
+}
+
 // The labels of the sheet in plane 0, handed out, and the number of its regions.
 pub fn label_into(work: &mut [u32], g: Grid, labels: &mut [u32]) -> u32
     requires sized { Sized g.h g.w work.old × (g.h * g.w ≤ length labels.old) }
@@ -198,6 +208,6 @@ pub fn label_into(work: &mut [u32], g: Grid, labels: &mut [u32]) -> u32
 {
     let n = g.h * g.w;
     let t = label_planes(work, g);
-    labels[..n].copy_from_slice(&work[n..2 * n]);
+    copy(&work[n..2 * n], &mut labels[..n]);
     t.regions
 }

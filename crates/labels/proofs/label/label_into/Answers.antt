@@ -6,4 +6,4 @@ use Rattle.labels.proofs.label.label_into.Goals as goal
 pub returns-clause-labels_after : goal.returns-clause-labels_after
 returns-clause-labels_after c =
     let e = c.label_planes-t.ensures in
-    plane_out _ _ _ c.label_planes-t.new.work _ _ c.copy_from_slice.ensures.after (omega arith) (omega (arith, c.requires.sized.0.planes, e.planes_kept.size)) e.labelled.labels
+    plane_out _ _ _ c.label_planes-t.new.work _ _ c.copy.ensures (omega arith) (omega (arith, c.requires.sized.0.planes, e.planes_kept.size)) e.labelled.labels
