@@ -14,7 +14,7 @@ use Rattle.base.specs.Places.{count}
 use Rattle.base.proofs.Counting.{case, clash, from_T, to_T, get_d_within}
 use Rattle.roots.specs.Units.{limit}
 use Rattle.roots.proofs.Unique.{bits→lt}
-use Rattle.channel.specs.Channel.{Decoded, Threshold, decode_of, threshold_of, byte_of}
+use Rattle.channel.specs.Channel.{Decoded, Threshold, ThresholdTable, decode_of, threshold_of, byte_of}
 use Rattle.channel.proofs.Entries.{at}
 use Rattle.channel.proofs.Patterns.{pattern_positive, pattern→le, le→pattern, le_through}
 use Rattle.channel.proofs.Tests.{decodes_fit, decodes-rule, decoded-is, bounds_fit, bounds-rule, threshold_is, between}
@@ -75,6 +75,11 @@ passes c i = le (threshold_of (i + 1)) c
 pub passes_at : (c : Float) (i : ℕ) → i < 255 → passes c i ≡ le (of_bits binary64 (threshold_pattern i)) c
 unfolding passes
 passes_at c i h = ap (λ (y : Float). le y c) (sym (entry-is i h))
+
+-- the same read from a table
+pub passes_by : {l : List ℕ} → ThresholdTable l → (c : Float) (i : ℕ) → i < 255 → passes c i ≡ le (of_bits binary64 (get_or l i 0)) c
+unfolding passes
+passes_by t c i h = ap (λ (y : Float). le y c) (sym (t.entry i h))
 
 pub earlier : (c : Float) (i j : ℕ) → i ≤ j → j < 255 → passes c j ≡ true → passes c i ≡ true
 earlier c i j l h t =

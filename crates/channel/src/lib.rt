@@ -539,16 +539,17 @@ pub fn threshold_table() -> &'static [u64; 255]
 pub fn decoded(k: u8) -> f64
     ensures { result ≡ decode_of k }
 {
-    f64::from_bits(DECODE[k as usize])
+    f64::from_bits(decode_table()[k as usize])
 }
 
 // A channel's byte: the number of thresholds that are not above it. They rise, so the number is found by halving the gap in which it lies.
 pub fn byte(c: f64) -> u8
     ensures { result ≡ byte_of c }
 {
+    let thresholds = threshold_table();
     let mut n = 0;
     for half in [128, 64, 32, 16, 8, 4, 2, 1] {
-        if f64::from_bits(THRESHOLDS[n + half - 1]) <= c {
+        if f64::from_bits(thresholds[n + half - 1]) <= c {
             n += half;
         }
     }
