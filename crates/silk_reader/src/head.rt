@@ -1,5 +1,5 @@
 // The head of the text: the sizes and settings, line by line.
-ghost use Rattle.std.specs.Prelude.{◌≡◌, List, ℕ};
+ghost use Rattle.std.specs.Prelude.{◌≡◌, List, ℕ, OnErr};
 ghost use Rattle.silk_reader.specs.Lines.{hundredths, outline_value, outline_line, outline_with, sizes, passes, last_settings, head_of, checked_head, head};
 ghost use Rattle.silk_reader.specs.Answers.{answer};
 
@@ -116,7 +116,7 @@ impl<'a> Cursor<'a> {
     // The rest of the line as an outline: none, auto or a hex colour.
     #[tactic(auto, unfolding(crate::specs::Lines::outline_value, crate::specs::Reader::codes))]
     fn outline_value(&mut self) -> Result<OutlineKind, Refusal>
-        ensures { answer result self.new ≡ outline_value self.old }
+        ensures { answer result self.new.rest.now ≡ outline_value self.old.rest.now }
     {
         if self.bytes(b"none\n").is_ok() {
             return Ok(OutlineKind::Nothing);
@@ -130,7 +130,7 @@ impl<'a> Cursor<'a> {
 
     #[tactic(auto, unfolding(crate::specs::Reader::codes))]
     fn outline_line(&mut self) -> Result<OutlineKind, Refusal>
-        ensures { answer result self.new ≡ outline_line self.old }
+        ensures { answer result self.new.rest.now ≡ outline_line self.old.rest.now }
     {
         self.bytes(b"outline=")?;
         self.outline_value()
@@ -139,7 +139,7 @@ impl<'a> Cursor<'a> {
     // The lines height, width and colours.
     #[tactic(auto, unfolding(crate::specs::Lines::sizes, crate::specs::Reader::codes))]
     fn sizes(&mut self) -> Result<Sizes, Refusal>
-        ensures { answer result self.new ≡ sizes self.old }
+        ensures { answer result self.new.rest.now ≡ sizes self.old.rest.now }
     {
         let height = self.number_line(b"height=")?;
         let width = self.number_line(b"width=")?;
@@ -154,7 +154,7 @@ impl<'a> Cursor<'a> {
     // The lines beta, orphans, min, delta and jaggies.
     #[tactic(auto, using(crate::proofs::Scanning::whole_double), unfolding(crate::specs::Lines::passes, crate::specs::Reader::codes))]
     fn passes(&mut self) -> Result<Passes, Refusal>
-        ensures { answer result self.new ≡ passes self.old }
+        ensures { answer result self.new.rest.now ≡ passes self.old.rest.now }
     {
         let beta = self.number_line(b"beta=")?;
         let orphans = self.switch_line(b"orphans=")?;
@@ -173,7 +173,7 @@ impl<'a> Cursor<'a> {
     // The lines darken, tileset, margin, saturated and fixed.
     #[tactic(auto, unfolding(crate::specs::Lines::last_settings, crate::specs::Reader::codes))]
     fn last_settings(&mut self) -> Result<LastSettings, Refusal>
-        ensures { answer result self.new ≡ last_settings self.old }
+        ensures { answer result self.new.rest.now ≡ last_settings self.old.rest.now }
     {
         let darken = self.number_line(b"darken=")?;
         let tileset = self.switch_line(b"tileset=")?;
@@ -192,12 +192,16 @@ impl<'a> Cursor<'a> {
     // The whole head; its sizes are judged once its last line is read.
     #[tactic(auto, unfolding(crate::specs::Lines::head))]
     pub fn head(&mut self) -> Result<Head, Refusal>
-        ensures { answer result self.new ≡ head self.old }
+        ensures value { answer result self.new.rest.now ≡ head self.old.rest.now }
+        ensures err { OnErr result (self.new.rest.now ≡ self.old.rest.now) }
     {
-        let s = self.sizes()?;
-        let p = self.passes()?;
-        let kind = self.outline_line()?;
-        let last = self.last_settings()?;
-        checked_head(head_of(s, p, kind, last))
+        let mut next = *self;
+        let s = next.sizes()?;
+        let p = next.passes()?;
+        let kind = next.outline_line()?;
+        let last = next.last_settings()?;
+        let head = checked_head(head_of(s, p, kind, last))?;
+        *self = next;
+        Ok(head)
     }
 }

@@ -14,20 +14,11 @@ ghost use Rattle.silk_reader.specs.Lines.{hex_line};
 use base::Refusal;
 use color::Rgb8;
 use hex_colour::hex_to_rgb8;
-use std::marker::Model;
 
-// What is left of a text: a clause sees its bytes.
-#[derive(Clone, Drop)]
+// What is left of a text.
+#[derive(Clone, Copy)]
 pub struct Cursor<'a> {
     rest: &'a [u8],
-}
-
-impl<'a> Model for Cursor<'a> {
-    ghost use Rattle.std.specs.Prelude.{ℕ, List};
-
-    ghost Value = { List ℕ };
-
-    ghost view = { λ c. c.rest.now };
 }
 
 // How many digits a text begins with.
@@ -78,30 +69,30 @@ const NEVER_NEGATIVE: u32 = 0;
 
 impl<'a> Cursor<'a> {
     pub fn new(text: &'a [u8]) -> Cursor<'a>
-        ensures { result ≡ text.now }
+        ensures { result.rest.now ≡ text.now }
     {
         Cursor { rest: text }
     }
 
     // What is left of the text: a cursor over it reads on from here.
     pub fn rest(&self) -> &'a [u8]
-        ensures { result.now ≡ self.now }
+        ensures { result.now ≡ self.now.rest.now }
     {
         let Self { rest } = self;
         *rest
     }
 
     pub fn is_empty(&self) -> bool
-        ensures { result ≡ (length self.now == 0) }
+        ensures { result ≡ (length self.now.rest.now == 0) }
     {
         self.rest.is_empty()
     }
 
-    // Past the bytes of a key.
+    // Past the bytes of a key. A refusal leaves the text as it was, as in each public function below.
     #[tactic(auto, using(crate::proofs::Scanning::bytes_cases))]
     pub fn bytes(&mut self, key: &[u8]) -> Result<(), Refusal>
-        ensures value { answer result self.new ≡ bytes key.now self.old }
-        ensures err { OnErr result (self.new ≡ self.old) }
+        ensures value { answer result self.new.rest.now ≡ bytes key.now self.old.rest.now }
+        ensures err { OnErr result (self.new.rest.now ≡ self.old.rest.now) }
     {
         self.rest = self.rest.strip_prefix(key).ok_or(Refusal::Malformed)?;
         Ok(())
@@ -110,7 +101,8 @@ impl<'a> Cursor<'a> {
     // A number of one to nine digits, with no leading zero.
     #[tactic(auto, using(crate::proofs::Scanning::number_cut, crate::proofs::Scanning::decimal_front), unfolding(crate::specs::Reader::proper_number))]
     pub fn decimal_number(&mut self) -> Result<u32, Refusal>
-        ensures value { answer result self.new ≡ decimal_number self.old }
+        ensures value { answer result self.new.rest.now ≡ decimal_number self.old.rest.now }
+        ensures err { OnErr result (self.new.rest.now ≡ self.old.rest.now) }
         ensures small { IfOk result (λ n. n < 10 ^ 9) }
     {
         let (digits, rest) = self.rest.split_at(digits_len(self.rest));
@@ -124,7 +116,7 @@ impl<'a> Cursor<'a> {
     // A cell of 0 or more.
     #[tactic(auto, unfolding(crate::specs::Reader::natural))]
     fn natural(&mut self) -> Result<i32, Refusal>
-        ensures { answer result self.new ≡ natural self.old }
+        ensures { answer result self.new.rest.now ≡ natural self.old.rest.now }
     {
         let n = self.decimal_number()?;
         Ok(n as i32)
@@ -133,7 +125,7 @@ impl<'a> Cursor<'a> {
     // A cell below 0, from its digits on; -0 is none.
     #[tactic(auto, unfolding(crate::specs::Reader::negative, crate::specs::Reader::minus))]
     fn negative(&mut self) -> Result<i32, Refusal>
-        ensures { answer result self.new ≡ negative self.old }
+        ensures { answer result self.new.rest.now ≡ negative self.old.rest.now }
     {
         let n = self.decimal_number()?;
         if n == NEVER_NEGATIVE {
@@ -145,47 +137,60 @@ impl<'a> Cursor<'a> {
     // A cell: a number that may carry a minus.
     #[tactic(auto, using(crate::proofs::Scanning::minus_cases), unfolding(crate::specs::Reader::cell))]
     pub fn cell(&mut self) -> Result<i32, Refusal>
-        ensures { answer result self.new ≡ cell self.old }
+        ensures value { answer result self.new.rest.now ≡ cell self.old.rest.now }
+        ensures err { OnErr result (self.new.rest.now ≡ self.old.rest.now) }
     {
-        if self.bytes(b"-").is_ok() {
-            self.negative()
+        let mut next = *self;
+        let cell = if next.bytes(b"-").is_ok() {
+            next.negative()?
         } else {
-            self.natural()
-        }
+            next.natural()?
+        };
+        *self = next;
+        Ok(cell)
     }
 
     // A line of a key and a number.
     #[tactic(auto, unfolding(crate::specs::Reader::number_line, crate::specs::Reader::newline))]
     pub fn number_line(&mut self, key: &[u8]) -> Result<u32, Refusal>
-        ensures value { answer result self.new ≡ number_line key.now self.old }
+        ensures value { answer result self.new.rest.now ≡ number_line key.now self.old.rest.now }
+        ensures err { OnErr result (self.new.rest.now ≡ self.old.rest.now) }
         ensures small { IfOk result (λ n. n < 10 ^ 9) }
     {
-        self.bytes(key)?;
-        let n = self.decimal_number()?;
-        self.bytes(b"\n")?;
+        let mut next = *self;
+        next.bytes(key)?;
+        let n = next.decimal_number()?;
+        next.bytes(b"\n")?;
+        *self = next;
         Ok(n)
     }
 
     // A line of a key and a switch, 0 or 1.
     #[tactic(auto, unfolding(crate::specs::Reader::switch_line))]
     pub fn switch_line(&mut self, key: &[u8]) -> Result<bool, Refusal>
-        ensures { answer result self.new ≡ switch_line key.now self.old }
+        ensures value { answer result self.new.rest.now ≡ switch_line key.now self.old.rest.now }
+        ensures err { OnErr result (self.new.rest.now ≡ self.old.rest.now) }
     {
-        match self.number_line(key)? {
-            0 => Ok(false),
-            1 => Ok(true),
-            _ => Err(Refusal::Malformed),
-        }
+        let mut next = *self;
+        let on = match next.number_line(key)? {
+            0 => false,
+            1 => true,
+            _ => return Err(Refusal::Malformed),
+        };
+        *self = next;
+        Ok(on)
     }
 
     // The rest of the line as a hex colour.
     #[tactic(auto, using(crate::proofs::Scanning::hex_none, crate::proofs::Scanning::hex_at))]
     pub fn hex_line(&mut self) -> Result<Rgb8, Refusal>
-        ensures { answer result self.new ≡ hex_line self.old }
+        ensures value { answer result self.new.rest.now ≡ hex_line self.old.rest.now }
+        ensures err { OnErr result (self.new.rest.now ≡ self.old.rest.now) }
     {
         let end = line_len(self.rest).ok_or(Refusal::Malformed)?;
         let (value, rest) = self.rest.split_at(end);
+        let colour = hex_to_rgb8(value)?;
         self.rest = &rest[1..];
-        hex_to_rgb8(value)
+        Ok(colour)
     }
 }

@@ -14,7 +14,7 @@ use silk_reader::head::Head;
 // Colour lines, into the front of a palette.
 fn read_colours(text: &mut Cursor, colours: usize, palette: &mut [f64]) -> Result<(), Refusal>
     requires { 3 * colours ≤ length palette.old }
-    ensures { got_list result palette.new text.new ≡ onto palette.old (colour_lines colours) text.old }
+    ensures { got_list result palette.new text.new.rest.now ≡ onto palette.old (colour_lines colours) text.old.rest.now }
 {
     for i in 0..colours {
         let c = text.colour_line()?;
@@ -25,7 +25,7 @@ fn read_colours(text: &mut Cursor, colours: usize, palette: &mut [f64]) -> Resul
 
 // The cells of a row.
 fn read_cells(text: &mut Cursor, row: &mut [i32]) -> Result<(), Refusal>
-    ensures { got_list result row.new text.new ≡ series 0 (length row.old) cell_at text.old }
+    ensures { got_list result row.new text.new.rest.now ≡ series 0 (length row.old) cell_at text.old.rest.now }
 {
     for (x, cell) in row.iter_mut().enumerate() {
         *cell = text.cell_at(x)?;
@@ -36,7 +36,7 @@ fn read_cells(text: &mut Cursor, row: &mut [i32]) -> Result<(), Refusal>
 // A row.
 #[tactic(auto, unfolding(crate::specs::Format::row_line, silk_reader::specs::Reader::codes, silk_reader::specs::Reader::newline))]
 fn read_row(text: &mut Cursor, row: &mut [i32]) -> Result<(), Refusal>
-    ensures { got_list result row.new text.new ≡ row_line (length row.old) text.old }
+    ensures { got_list result row.new text.new.rest.now ≡ row_line (length row.old) text.old.rest.now }
 {
     text.bytes(b"row=")?;
     read_cells(text, row)?;
@@ -46,7 +46,7 @@ fn read_row(text: &mut Cursor, row: &mut [i32]) -> Result<(), Refusal>
 // All rows, into the front of the cells.
 fn read_rows(text: &mut Cursor, h: usize, w: usize, cells: &mut [i32]) -> Result<(), Refusal>
     requires { h * w ≤ length cells.old }
-    ensures { got_list result cells.new text.new ≡ onto cells.old (row_lines h w) text.old }
+    ensures { got_list result cells.new text.new.rest.now ≡ onto cells.old (row_lines h w) text.old.rest.now }
 {
     for y in 0..h {
         read_row(text, &mut cells[y * w..(y + 1) * w])?;
@@ -63,7 +63,7 @@ fn read_lists(
     cells: &mut [i32],
 ) -> Result<Head, Refusal>
     requires { (3 * h.colours ≤ length palette.old) × (h.height * h.width ≤ length cells.old) }
-    ensures { got_file result palette.new cells.new text.new ≡ lent palette.old cells.old (lists h text.old) }
+    ensures { got_file result palette.new cells.new text.new.rest.now ≡ lent palette.old cells.old (lists h text.old.rest.now) }
 {
     read_colours(text, h.colours, palette)?;
     read_rows(text, h.height, h.width, cells)?;
@@ -73,7 +73,7 @@ fn read_lists(
 #[tactic(auto, using(crate::proofs::Whole::file_steps))]
 fn read_file(text: &mut Cursor, palette: &mut [f64], cells: &mut [i32]) -> Result<Head, Refusal>
     requires { (768 ≤ length palette.old) × (1600 ≤ length cells.old) }
-    ensures { got_file result palette.new cells.new text.new ≡ lent palette.old cells.old (file text.old) }
+    ensures { got_file result palette.new cells.new text.new.rest.now ≡ lent palette.old cells.old (file text.old.rest.now) }
 {
     let h = text.head()?;
     read_lists(text, h, palette, cells)

@@ -13,13 +13,13 @@ loop-x-init c = going_none 1 _
 pub returns-in_err-cell : goal.returns-in_err-cell
 returns-in_err-cell c =
     let p = err_from_is_err_and c.from_residual.result c.from_residual.ensures.1 in
-    rw (p.1, p.2) (sym (going_refused 1 _ c.loop-x.invariant (omega arith) (sym c.in_err-cell.ensures)))
+    rw (p.1, p.2) (sym (going_refused 1 _ c.loop-x.invariant (omega arith) (sym c.in_err-cell.ensures.value)))
 
 pub loop-x-preserved : goal.loop-x-preserved
 loop-x-preserved c =
     let g = c.loop-x.invariant in
     let e : to_z w32 (of_z w32 c.in_ok-cell.field-0) ≡ c.in_ok-cell.field-0 = grind (arith, ints, to_z-of_z) in
-    rw e (going_more 1 _ g (omega arith) (sym c.in_ok-cell.ensures) refl (omega (arith, g.kept)) {place = c.loop-x.x} (laid_one _ _ _ (omega (arith, g.kept))) (omega arith))
+    rw e (going_more 1 _ g (omega arith) (sym c.in_ok-cell.ensures.value) refl (omega (arith, g.kept)) {place = c.loop-x.x} (laid_one _ _ _ (omega (arith, g.kept))) (omega arith))
 
 pub returns : goal.returns
 returns c = going_whole c.loop-x.invariant (omega arith)

@@ -13,13 +13,13 @@ pub returns-in_err-c : goal.returns-in_err-c
 unfolding colour_lines
 returns-in_err-c c =
     let p = err_from_is_err_and c.from_residual.result c.from_residual.ensures.1 in
-    rw (p.1, p.2) (sym (onto_not _ _ _ (rw (going_refused 3 _ c.loop-i.invariant c.loop-i-test.true (sym c.in_err-c.ensures)))))
+    rw (p.1, p.2) (sym (onto_not _ _ _ (rw (going_refused 3 _ c.loop-i.invariant c.loop-i-test.true (sym c.in_err-c.ensures.value)))))
 
 pub loop-i-preserved : goal.loop-i-preserved
 unfolding doubles
 loop-i-preserved c =
     let new = c.recolour.ensures ∙ ap (recoloured c.loop-i.palette c.loop-i.i) c.rgb8_to_lab_one.ensures ∙ recoloured-laid c.loop-i.palette c.loop-i.i c.in_ok-c.c (omega arith) in
-    going_more 3 _ c.loop-i.invariant c.loop-i-test.true (sym c.in_ok-c.ensures) refl (omega arith) {place = 3 * c.loop-i.i} new (omega arith)
+    going_more 3 _ c.loop-i.invariant c.loop-i-test.true (sym c.in_ok-c.ensures.value) refl (omega arith) {place = 3 * c.loop-i.i} new (omega arith)
 
 pub returns : goal.returns
 unfolding colour_lines

@@ -15,13 +15,13 @@ unfolding row_lines
 returns-in_err-read_row c =
     let p = err_from_is_err_and c.from_residual.result c.from_residual.ensures.1 in
     let n = part_length c.args.h c.args.w c.loop-y.y c.loop-y.cells (omega arith) c.loop-y-test.true in
-    let q : refused c.in_err-read_row.field-0.0 ≡ row_line c.args.w c.loop-y.text = c.in_err-read_row.ensures ∙ ap (λ (k : ℕ). row_line k c.loop-y.text) n in
+    let q : refused c.in_err-read_row.field-0.0 ≡ row_line c.args.w c.loop-y.text.rest.now = c.in_err-read_row.ensures ∙ ap (λ (k : ℕ). row_line k c.loop-y.text.rest.now) n in
     rw (p.1, p.2) (sym (onto_not _ _ _ (rw (going_refused _ _ c.loop-y.invariant c.loop-y-test.true (sym q)))))
 
 pub loop-y-preserved : goal.loop-y-preserved
 loop-y-preserved c =
     let n = part_length c.args.h c.args.w c.loop-y.y c.loop-y.cells (omega arith) c.loop-y-test.true in
-    let q : got c.read_row.new.row c.read_row.new.text ≡ row_line c.args.w c.loop-y.text = c.in_ok-read_row.ensures ∙ ap (λ (k : ℕ). row_line k c.loop-y.text) n in
+    let q : got c.read_row.new.row c.read_row.new.text.rest.now ≡ row_line c.args.w c.loop-y.text.rest.now = c.in_ok-read_row.ensures ∙ ap (λ (k : ℕ). row_line k c.loop-y.text.rest.now) n in
     let r = row-length _ _ (sym q) in
     going_more _ _ c.loop-y.invariant c.loop-y-test.true (sym q) r (row_end c.args.h c.args.w _ c.loop-y.y c.requires c.loop-y-test.true) {place = c.loop-y.y * c.args.w} (mid_laid _ _ _ _ refl (omega (arith, r))) refl
 

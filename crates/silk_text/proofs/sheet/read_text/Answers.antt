@@ -14,13 +14,13 @@ returns-in_err-h c =
 pub returns-then-left_over : goal.returns-then-left_over
 returns-then-left_over c =
     let s = parts_steps c.args.palette.now c.args.cells.now c.args.text.now c.min.ensures (c.new-rest.ensures ∙ c.split_at.ensures.front) c.split_at.ensures.back in
-    let t : 0 < length c.read_file.new.text + length c.split_at.result.1.now =
+    let t : 0 < length c.read_file.new.text.rest.now + length c.split_at.result.1.now =
     elim c.then-left_over.branch [ then-left_over-via-then-left_over w ↦ grind (arith, nat_tests) | then-left_over-via-else-left_over+then-not-is_empty w ↦ grind (arith, nat_tests) ] in
-    rw (s, ← c.in_ok-h.ensures) (sym (ended-more _ c.read_file.new.text c.split_at.result.1.now t))
+    rw (s, ← c.in_ok-h.ensures) (sym (ended-more _ c.read_file.new.text.rest.now c.split_at.result.1.now t))
 
 pub returns : goal.returns
 returns c =
     let s = parts_steps c.args.palette.now c.args.cells.now c.args.text.now c.min.ensures (c.new-rest.ensures ∙ c.split_at.ensures.front) c.split_at.ensures.back in
-    let r : length c.read_file.new.text ≡ 0 = grind (arith, nat_tests) in
+    let r : length c.read_file.new.text.rest.now ≡ 0 = grind (arith, nat_tests) in
     let b : length c.split_at.result.1.now ≡ 0 = grind (arith, nat_tests) in
-    rw (s, ← c.in_ok-h.ensures) (sym (ended_none _ c.read_file.new.text c.split_at.result.1.now r b))
+    rw (s, ← c.in_ok-h.ensures) (sym (ended_none _ c.read_file.new.text.rest.now c.split_at.result.1.now r b))
