@@ -2,7 +2,6 @@
 #![tactic(auto)]
 
 ghost use Rattle.std.specs.Prelude.{◌≡◌, [], ◌∷◌, ◌+◌, ◌*◌, ◌^◌, ◌≤◌, ◌<◌, length};
-ghost use Rattle.base.specs.Numbers.{number};
 ghost use Rattle.rules.specs.Entries.{SizesInRange};
 ghost use Rattle.silk_print.specs.Print.{numeral, signed_numeral, hex_digit, hex_byte, hex_colour, number_text, index_text, clipped_text, head_text, colour_text, colours_text, cell_text, cells_text, row_text, rows_text, result_text, refusal_text, lengths_fit, result_fits, refusal_fits, printed_answer, printed_buffer, Put, HasRoom, Printable, room_for, sizes_text};
 
@@ -261,16 +260,16 @@ pub fn print_result(
 }
 
 // Prints a refusal's number to the front of a buffer. Less than twelve bytes are refused as too short, with the buffer as it was.
-pub fn print_refusal(refusal: Refusal, out: &mut [u8]) -> Result<usize, Refusal>
-    ensures value { result ≡ printed_answer (refusal_fits out.old) (refusal_text (number refusal)) }
-    ensures out_after { out.new ≡ printed_buffer (refusal_fits out.old) (refusal_text (number refusal)) out.old }
+pub fn print_refusal(n: u8, out: &mut [u8]) -> Result<usize, Refusal>
+    ensures value { result ≡ printed_answer (refusal_fits out.old) (refusal_text n) }
+    ensures out_after { out.new ≡ printed_buffer (refusal_fits out.old) (refusal_text n) out.old }
 {
     if out.len() < 12 {
         return Err(Refusal::ListTooShort);
     }
     let mut to = Printer::new(out);
     to.put_bytes(b"refused=");
-    to.put_number(usize::from(refusal.number()));
+    to.put_number(usize::from(n));
     to.put_byte(b'\n');
     Ok(to.at)
 }

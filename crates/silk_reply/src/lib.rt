@@ -4,7 +4,6 @@
 ghost use Rattle.std.specs.Prelude.{◌<◌, ◌≡◌, length, take, OnOk};
 ghost use Rattle.std.specs.Result.{result_and};
 ghost use Rattle.std.specs.Io.KnownBytes.{IsAtEnd, Appends, Consumes};
-ghost use Rattle.base.specs.Numbers.{number};
 ghost use Rattle.rules.specs.Sheet.{over};
 ghost use Rattle.silk_print.specs.Print.{refusal_text};
 ghost use Rattle.silk_reply.specs.Reply.{call_of, sheet_text, silk_text, Ran, Front};
@@ -35,10 +34,10 @@ const CELLS: usize = 1764;
 const WORK: usize = 8 * CELLS;
 
 // Prints a refusal's number: there is always room for it.
-fn put_refusal(refusal: Refusal, out: &mut [u8; ROOM]) -> usize
-    ensures { Front (refusal_text (number refusal)) out.old out.new result }
+fn put_refusal(n: u8, out: &mut [u8; ROOM]) -> usize
+    ensures { Front (refusal_text n) out.old out.new result }
 {
-    print_refusal(refusal, out).unwrap_or(0)
+    print_refusal(n, out).unwrap_or(0)
 }
 
 // `run` on a sheet that was read.
@@ -76,7 +75,7 @@ fn put_sheet(
 {
     match run_sheet(h, palette, cells) {
         Ok(done) => print_result(done.facts, palette, cells, out).unwrap_or(0),
-        Err(reason) => put_refusal(reason, out),
+        Err(reason) => put_refusal(reason.number(), out),
     }
 }
 
@@ -89,7 +88,7 @@ pub fn respond(text: &[u8], out: &mut [u8; ROOM]) -> usize
     let mut cells = [0i32; CELLS];
     match read(text, &mut palette, &mut cells) {
         Ok(h) => put_sheet(h, &mut palette, &mut cells, out),
-        Err(refusal) => put_refusal(refusal, out),
+        Err(refusal) => put_refusal(refusal.number(), out),
     }
 }
 

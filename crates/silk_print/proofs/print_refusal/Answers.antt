@@ -1,7 +1,6 @@
 -- `print_refusal`: the buffer is tested, then the line is put. Assumes nothing.
-use Rattle.std.proofs.Common.{◌≡◌, length, ap, ◌∙◌, arith, rules}
+use Rattle.std.proofs.Common.{length, ap, arith, rules}
 use borrow.Author.Tests.{le-leb, lt-leb}
-use Rattle.base.specs.Numbers.{number}
 use Rattle.silk_reader.specs.Reader.{codes, newline}
 use Rattle.silk_print.specs.Print.{refusal_fits, refusal_text, number_text}
 use Rattle.silk_print.proofs.Digits.{numeral_short}
@@ -27,12 +26,10 @@ pub returns-clause-value : goal.returns-clause-value
 unfolding refusal_fits refusal_text number_text codes newline
 returns-clause-value c =
     let whole = put_three c.put_bytes.ensures c.put_number.ensures c.put_byte.ensures (omega (arith, numeral_short 2 c.from.result (omega arith), ap length c.new-to.ensures.buffer)) in
-    let told : c.from.result ≡ number c.args.refusal = c.from.ensures ∙ c.number.ensures in
-    printed_yes (le-leb 12 _ c.if-out-lt12.false) c.new-to.ensures.front c.new-to.ensures.buffer (rw told at whole)
+    printed_yes (le-leb 12 _ c.if-out-lt12.false) c.new-to.ensures.front c.new-to.ensures.buffer (rw c.from.ensures at whole)
 
 pub returns-clause-out_after : goal.returns-clause-out_after
 unfolding refusal_fits refusal_text number_text codes newline
 returns-clause-out_after c =
     let whole = put_three c.put_bytes.ensures c.put_number.ensures c.put_byte.ensures (omega (arith, numeral_short 2 c.from.result (omega arith), ap length c.new-to.ensures.buffer)) in
-    let told : c.from.result ≡ number c.args.refusal = c.from.ensures ∙ c.number.ensures in
-    buffer-printed (le-leb 12 _ c.if-out-lt12.false) c.new-to.ensures.front c.new-to.ensures.buffer (rw told at whole) (search rules)
+    buffer-printed (le-leb 12 _ c.if-out-lt12.false) c.new-to.ensures.front c.new-to.ensures.buffer (rw c.from.ensures at whole) (search rules)

@@ -8,4 +8,4 @@ returns-in-Ok c =
     sheet_put _ _ _ c.run_sheet.ensures c.in-Ok.is (omega arith) c.print_result.ensures.value c.print_result.ensures.out_after c.unwrap_or.ensures
 
 pub returns-in-Err : goal.returns-in-Err
-returns-in-Err c = rw (sheet_refused _ _ _ c.run_sheet.ensures c.in-Err.is) c.put_refusal.ensures
+returns-in-Err c = rw (sheet_refused _ _ _ c.run_sheet.ensures c.in-Err.is) (rw c.number.ensures at c.put_refusal.ensures)

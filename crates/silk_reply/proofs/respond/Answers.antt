@@ -14,4 +14,5 @@ returns-in-Ok c =
 pub returns-in-Err : goal.returns-in-Err
 unfolding no_colours no_cells decimal of_bits round
 returns-in-Err c =
-    rw (read_refused _ c.read.ensures.value c.in-Err.is) (record { value = c.put_refusal.ensures.size; out_after = c.put_refusal.ensures.list })
+    let put = rw c.number.ensures at c.put_refusal.ensures in
+    rw (read_refused _ c.read.ensures.value c.in-Err.is) (record { value = put.size; out_after = put.list })
