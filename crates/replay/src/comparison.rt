@@ -1,5 +1,5 @@
 // The cases of a stream, and whether a call gave what is stored of it, list by list.
-ghost use Rattle.std.specs.Prelude.{◌≡◌, ◌&&◌, ◌==◌, length};
+ghost use Rattle.std.specs.Prelude.{◌≡◌, ◌-◌, ◌&&◌, ◌==◌, length};
 ghost use Rattle.std.specs.Iterator.{at_most};
 ghost use Rattle.replay.specs.Kinds.{same_at};
 ghost use Rattle.replay.specs.Comparisons.{answered_at, further, NextCase};
@@ -8,22 +8,19 @@ use crate::kinds::Kind;
 use crate::lists::{After, Stored};
 use crate::numbers::Numbers;
 
-// The cases of a stream: each begins with how many numbers it has.
+// The cases of a stream, from the place of the next one on: each begins with how many numbers it has.
 #[derive(Clone, Copy, Debug)]
-pub struct Cases<'a>(pub &'a [u64]);
+pub struct Cases<'a>(pub Numbers<'a>);
 
 impl<'a> Iterator for Cases<'a> {
     type Item = Numbers<'a>;
 
-    ghost next_gives = { λ s r t. NextCase s.0.now r t.0.now };
+    ghost next_gives = { λ s r t. NextCase s.0 r t.0 };
 
-    ghost remaining = { λ s. at_most (length s.0.now) };
+    ghost remaining = { λ s. at_most (s.0.end - s.0.at) };
 
     fn next(&mut self) -> Option<Numbers<'a>> {
-        let (count, rest) = self.0.split_first()?;
-        let (case, later) = rest.split_at(usize::min(*count as usize, rest.len()));
-        self.0 = later;
-        Some(Numbers::new(case))
+        self.0.case()
     }
 }
 
@@ -58,7 +55,7 @@ impl<'a> Comparison<'a> {
 
     // Whether all was the same, and the case has just those numbers that its entry takes.
     pub fn holds(self) -> bool
-        ensures { result ≡ (self.entry.same && self.entry.rest.at == length self.entry.rest.stream.now) }
+        ensures { result ≡ (self.entry.same && self.entry.rest.at == self.entry.rest.end) }
     {
         self.same && self.rest.at_end()
     }

@@ -1,31 +1,38 @@
 // A place in a stream of numbers.
 ghost use Rattle.std.specs.Prelude.{◌≡◌, length, ◌==◌};
 ghost use Rattle.replay.specs.Lists.{number_at, past, given_at, past_given, stored_at, work_at};
+ghost use Rattle.replay.specs.Comparisons.{NextCase};
 
 use crate::kinds::Kind;
 use crate::lists::{Given, Stored};
 
-// The place of the next number, which moves on as numbers are read. Past the end each is 0.
+// The place of the next number, which moves on as numbers are read, and the place where those of a case end. Past the end of the stream each is 0.
 #[derive(Clone, Copy, Debug)]
 pub struct Numbers<'a> {
     stream: &'a [u64],
     at: usize,
+    end: usize,
 }
 
 impl<'a> Numbers<'a> {
-    // The place of the first number.
+    // The place of the first number of a whole stream.
     pub fn new(stream: &'a [u64]) -> Self
         ensures stream { result.stream.now ≡ stream.now }
         ensures at { result.at ≡ 0 }
+        ensures end { result.end ≡ length stream.now }
     {
-        Self { stream, at: 0 }
+        Self {
+            stream,
+            at: 0,
+            end: stream.len(),
+        }
     }
 
     // Whether the place is the end.
     pub fn at_end(self) -> bool
-        ensures { result ≡ (self.entry.at == length self.entry.stream.now) }
+        ensures { result ≡ (self.entry.at == self.entry.end) }
     {
-        self.at == self.stream.len()
+        self.at == self.end
     }
 
     // The place count past this one.
@@ -35,6 +42,7 @@ impl<'a> Numbers<'a> {
         Self {
             stream: self.stream,
             at: self.at.wrapping_add(count),
+            end: self.end,
         }
     }
 
@@ -53,6 +61,24 @@ impl<'a> Numbers<'a> {
         let n = self.get();
         *self = self.past(1);
         n
+    }
+
+    // Reads a case, which begins with how many numbers it has: the place of its first number, up to its end. No case begins at the end.
+    pub fn case(&mut self) -> Option<Self>
+        ensures { NextCase self.old result self.new }
+    {
+        if self.at >= self.end {
+            return None;
+        }
+        let len = self.size();
+        let case_end = self.at + usize::min(len, self.end - self.at);
+        let case = Self {
+            stream: self.stream,
+            at: self.at,
+            end: case_end,
+        };
+        self.at = case_end;
+        Some(case)
     }
 
     // Reads a length, an index or a count.

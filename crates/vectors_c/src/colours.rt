@@ -1,5 +1,5 @@
 // Cases of the entries over lists of colours, and of the one that reads hex.
-use crate::lent::Lent;
+use crate::lent::{LIST, Lent, MATRIX};
 use crate::replayed;
 use replay::{Comparison, Kind, Numbers};
 use silk_c::{
@@ -11,16 +11,17 @@ use std::io;
 use std::io::Write;
 use std::rt::Files;
 
-// A case of an entry that makes one list of another.
+// A case of an entry that makes one list of another, for which there is so much room.
 fn converted<A: Kind, B: Kind, F: Fn(&[A], &mut [B]) -> u32>(
     alloc: Global,
     mut case: Numbers<'_>,
+    room: usize,
     entry: F,
 ) -> Result<bool, AllocError>
     requires { F.IsAlwaysCallable entry }
 {
     let given = Lent::<A>::list(alloc, &mut case)?;
-    let mut out = Lent::<B>::list(alloc, &mut case)?;
+    let mut out = Lent::<B>::list_within(alloc, &mut case, room)?;
     let answer = entry(&given.elements, &mut out.elements);
     let found = given.compared(Comparison::answered(case, answer));
     Ok(out.compared(found).holds())
@@ -50,14 +51,14 @@ fn replay_conversions<R: Files, W: Write>(files: &R, alloc: Global, out: &mut W)
         alloc,
         out,
         "rgb8_to_lab.txt",
-        |alloc, case| converted(alloc, case, silk_rgb8_to_lab),
+        |alloc, case| converted(alloc, case, LIST, silk_rgb8_to_lab),
     )?;
     replayed(
         files,
         alloc,
         out,
         "lab_to_rgb8.txt",
-        |alloc, case| converted(alloc, case, silk_lab_to_rgb8),
+        |alloc, case| converted(alloc, case, LIST, silk_lab_to_rgb8),
     )?;
     Ok(())
 }
@@ -84,14 +85,14 @@ pub fn replay_files<R: Files, W: Write>(files: &R, alloc: Global, out: &mut W) -
         alloc,
         out,
         "palette_distance_matrix.txt",
-        |alloc, case| converted(alloc, case, silk_palette_distance_matrix),
+        |alloc, case| converted(alloc, case, MATRIX, silk_palette_distance_matrix),
     )?;
     replayed(
         files,
         alloc,
         out,
         "hex_to_rgb8.txt",
-        |alloc, case| converted(alloc, case, silk_hex_to_rgb8),
+        |alloc, case| converted(alloc, case, LIST, silk_hex_to_rgb8),
     )?;
     Ok(())
 }
