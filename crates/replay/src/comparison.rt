@@ -2,20 +2,39 @@
 ghost use Rattle.std.specs.Prelude.{◌≡◌, ◌-◌, ◌&&◌, ◌==◌, length};
 ghost use Rattle.std.specs.Iterator.{at_most};
 ghost use Rattle.replay.specs.Kinds.{same_at};
-ghost use Rattle.replay.specs.Comparisons.{answered_at, further, NextCase};
+ghost use Rattle.replay.specs.Comparisons.{answered_at, further, NextCase, NextCaseAt};
 
 use crate::kinds::Kind;
 use crate::lists::{After, Stored};
 use crate::numbers::Numbers;
 
-// The cases of a stream, from the place of the next one on: each begins with how many numbers it has.
+// The cases of a stream, each of them a stream of its own: each begins with how many numbers it has.
 #[derive(Clone, Copy, Debug)]
-pub struct Cases<'a>(pub Numbers<'a>);
+pub struct Cases<'a>(pub &'a [u64]);
 
 impl<'a> Iterator for Cases<'a> {
     type Item = Numbers<'a>;
 
-    ghost next_gives = { λ s r t. NextCase s.0 r t.0 };
+    ghost next_gives = { λ s r t. NextCase s.0.now r t.0.now };
+
+    ghost remaining = { λ s. at_most (length s.0.now) };
+
+    fn next(&mut self) -> Option<Numbers<'a>> {
+        let (count, rest) = self.0.split_first()?;
+        let (case, later) = rest.split_at(usize::min(*count as usize, rest.len()));
+        self.0 = later;
+        Some(Numbers::new(case))
+    }
+}
+
+// The cases from a place on, each of them in the whole stream: each begins with how many numbers it has.
+#[derive(Clone, Copy, Debug)]
+pub struct CasesAt<'a>(pub Numbers<'a>);
+
+impl<'a> Iterator for CasesAt<'a> {
+    type Item = Numbers<'a>;
+
+    ghost next_gives = { λ s r t. NextCaseAt s.0 r t.0 };
 
     ghost remaining = { λ s. at_most (s.0.end - s.0.at) };
 
@@ -58,5 +77,23 @@ impl<'a> Comparison<'a> {
         ensures { result ≡ (self.entry.same && self.entry.rest.at == self.entry.rest.end) }
     {
         self.same && self.rest.at_end()
+    }
+}
+
+#[cfg(test)]
+mod tests {
+    use super::*;
+
+    fn first_three(case: Numbers<'_>) -> [u64; 3] {
+        [case.get(), case.past(1).get(), case.past(2).get()]
+    }
+
+    // A case of two numbers, and one that is cut off by the end of the stream: past the end of a case each number is 0.
+    #[test]
+    fn gives_each_case_as_a_stream(rt: HostRuntime) {
+        let mut cases = Cases(&[2, 7, 8, 3, 9]);
+        assert_eq!(rt; cases.next().map(first_three), Some([7, 8, 0]));
+        assert_eq!(rt; cases.next().map(first_three), Some([9, 0, 0]));
+        assert!(rt; cases.next().is_none());
     }
 }

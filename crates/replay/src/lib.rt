@@ -9,7 +9,7 @@ pub mod numbers;
 pub mod report;
 pub mod text;
 
-pub use comparison::{Cases, Comparison};
+pub use comparison::{Cases, CasesAt, Comparison};
 pub use kinds::Kind;
 pub use lists::Stored;
 pub use numbers::Numbers;

@@ -1,7 +1,7 @@
 // A place in a stream of numbers.
 ghost use Rattle.std.specs.Prelude.{◌≡◌, length, ◌==◌};
 ghost use Rattle.replay.specs.Lists.{number_at, past, given_at, past_given, stored_at, work_at};
-ghost use Rattle.replay.specs.Comparisons.{NextCase};
+ghost use Rattle.replay.specs.Comparisons.{NextCaseAt};
 
 use crate::kinds::Kind;
 use crate::lists::{Given, Stored};
@@ -65,7 +65,7 @@ impl<'a> Numbers<'a> {
 
     // Reads a case, which begins with how many numbers it has: the place of its first number, up to its end. No case begins at the end.
     pub fn case(&mut self) -> Option<Self>
-        ensures { NextCase self.old result self.new }
+        ensures { NextCaseAt self.old result self.new }
     {
         if self.at >= self.end {
             return None;

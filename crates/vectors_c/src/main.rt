@@ -6,7 +6,7 @@ mod lent;
 mod regions;
 mod sheets;
 
-use replay::{Cases, Numbers, Total, report_case, report_total};
+use replay::{CasesAt, Numbers, Total, report_case, report_total};
 use std::alloc::{AllocError, Global};
 use std::io::Write;
 use std::rt::Files;
@@ -26,7 +26,7 @@ fn replay_cases<W: Write, F: Fn(Global, Numbers<'_>) -> Result<bool, AllocError>
     requires { F.IsAlwaysCallable holds }
 {
     let mut total = Total::default();
-    for case in Cases(Numbers::new(numbers)) {
+    for case in CasesAt(Numbers::new(numbers)) {
         let same = holds(alloc, case)?;
         if !same {
             report_case(out, name.as_bytes(), total.cases)?;
