@@ -8,7 +8,7 @@ use crate::kinds::Kind;
 use crate::lists::{After, Stored};
 use crate::numbers::Numbers;
 
-// The cases of a stream, each of them a stream of its own: each begins with how many numbers it has.
+// The cases of a stream, which begin with how many numbers they have. Each is a stream of its own: past its end a number is 0.
 #[derive(Clone, Copy, Debug)]
 pub struct Cases<'a>(pub &'a [u64]);
 
@@ -27,7 +27,7 @@ impl<'a> Iterator for Cases<'a> {
     }
 }
 
-// The cases from a place on, each of them in the whole stream: each begins with how many numbers it has.
+// The cases from a place on, as the stored answers are replayed. Each is a part of the whole stream: past its end a number is what follows there.
 #[derive(Clone, Copy, Debug)]
 pub struct CasesAt<'a>(pub Numbers<'a>);
 
